@@ -1,0 +1,3 @@
+-- Laws that every other crate's proofs may cite.
+pub mod Extend
+pub mod Tests
