@@ -1,0 +1,6 @@
+pub mod Immediates
+pub mod Complete
+pub mod Pictures
+pub mod Rows
+pub mod Shapes
+pub mod Tags

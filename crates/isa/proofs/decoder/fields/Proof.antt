@@ -1,0 +1,24 @@
+use borrow.Author.Needs.{needs}
+use Rattle.isa.proofs.decoder.fields.Statement.{statement}
+use Rattle.isa.proofs.decoder.fields.Tie as tie
+
+register-requires : tie.Need-register-requires
+register-requires c κs = search needs
+
+register-requires-2 : tie.Need-register-requires-2
+register-requires-2 c κs = search needs
+
+register-requires-3 : tie.Need-register-requires-3
+register-requires-3 c κs = search needs
+
+immediate-bits-requires : tie.Need-immediate-bits-requires
+immediate-bits-requires c κs = search needs
+
+extended-requires : tie.Need-extended-requires
+extended-requires c κs = search needs
+
+returns : tie.Need-returns
+returns c = (simp (c .extended .ensures, c .before .immediate-bits .ensures .0, c .before .before .register3 .ensures .0, c .before .before .before .register2 .ensures .0, c .before .before .before .before .register .ensures .0), record { d = c .before .before .before .before .register .ensures .1; a = c .before .before .before .register2 .ensures .1; b = c .before .before .register3 .ensures .1 })
+
+pub fields-spec : {M : Type 1} → statement M
+fields-spec = tie.close (tie.spec register-requires register-requires-2 register-requires-3 immediate-bits-requires extended-requires returns)

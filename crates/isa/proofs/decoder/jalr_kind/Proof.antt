@@ -1,0 +1,19 @@
+use mathlib.Core.List.{[], _∷_}
+use Prim.Native.Nat.{ℕ, _+_, _≤_, _<_}
+use native.Mathlib.Omega.{arith}
+use Rattle.bits.proofs.Tests.{equal-but}
+use Rattle.isa.specs.InstructionSet.{rows, fits, firstFit}
+use Rattle.isa.specs.Parts.{kindOf, kindIn}
+use Rattle.isa.proofs.decoder.jalr_kind.Statement.{statement}
+use Rattle.isa.proofs.decoder.jalr_kind.Tie as tie
+
+returns : tie.Need-returns
+unfolding rows fits firstFit kindOf kindIn
+returns c = rw (c .if1 .taken)
+
+returns-2 : tie.Need-returns-2
+unfolding rows fits firstFit kindOf kindIn
+returns-2 c = equal-but (λ x. 15) (kindIn 0x12 11) (9 ∷ []) 0 32 tt (c .before .args .x) (omega arith) (omega arith) (tt, c .if1 .left)
+
+pub jalr-kind-spec : {M : Type 1} → statement M
+jalr-kind-spec = tie.close (tie.spec returns returns-2)

@@ -1,0 +1,4 @@
+pub mod InstructionSet
+pub mod Encoding
+pub mod Vectors
+pub mod Parts

@@ -1,0 +1,109 @@
+-- What the parts of the decoder and the encoder promise one another. Nothing here is document 01's: InstructionSet has that.
+use mathlib.Core.Bool.{Bool, true, false, _&&_}
+use mathlib.Core.Path.{_≡_}
+use mathlib.Core.List.{List, [], _∷_}
+use Prim.Native.Nat.{ℕ, _+_, _-_, _*_, _/_, _%_, _^_, _<_}
+use lib.Dec.{leb}
+use lib.ListN.{getD}
+use Rattle.bits.specs.Choice.{if_then_else_}
+use Rattle.bits.specs.Word.{field}
+use Rattle.isa.specs.InstructionSet as set
+use Rattle.isa.specs.InstructionSet.{rows, firstFit, kindRow, immediate, entry, pack, immediateBits, wordFor}
+use Rattle.isa.specs.declared.kinds.Place.{Place}
+use Rattle.isa.specs.declared.kinds.Place.the-variants.{None, Low5, Low16, Low26, Split}
+use Rattle.isa.specs.declared.kinds.Form.{Form}
+use Rattle.isa.specs.declared.kinds.Form.the-variants.{Zext, Sext, Jump}
+use Rattle.isa.specs.declared.kinds.Shape.{Shape}
+use Rattle.isa.specs.declared.entry.Fields.{Fields}
+
+-- the kind of a word
+unfoldable pub kindOf : ℕ → ℕ
+kindOf w = firstFit rows w .kind
+
+-- the kind of the word with that opcode, x at bit low and 0 elsewhere
+unfoldable pub kindIn : ℕ → ℕ → ℕ → ℕ
+kindIn opcode low x = kindOf (opcode * 2 ^ 26 + x * 2 ^ low)
+
+-- the kind of a compare, by bits 25-21, in the group whose kinds begin at first
+unfoldable pub compareKind : ℕ → ℕ → ℕ
+compareKind first x =
+    if leb x 5 then first + x else
+    if leb 10 x && leb x 13 then first + x - 4 else
+    1
+
+pub record Registers (f : Fields) : Type 0 where
+  pub d : f .d < 32
+  pub a : f .a < 32
+  pub b : f .b < 32
+
+abbrev pub packed : ℕ → Fields → ℕ
+packed k f = pack k (f .d) (f .a) (f .b) (f .immediate)
+
+abbrev pub fieldsOf : ℕ → Fields
+fieldsOf e = record { d = field e 42 5; a = field e 37 5; b = field e 32 5; immediate = e % 2 ^ 32 }
+
+abbrev pub formOf : Form → set.Form
+formOf Zext = set.zext
+formOf Sext = set.sext
+formOf Jump = set.jump
+
+-- the immediate's bits in a word, and in their place in a word
+abbrev pub gathered : Place → ℕ → ℕ
+gathered None w = 0
+gathered Low5 w = w % 2 ^ 5
+gathered Low16 w = w % 2 ^ 16
+gathered Low26 w = w % 2 ^ 26
+gathered Split w = field w 21 5 * 2 ^ 11 + w % 2 ^ 11
+
+abbrev pub scattered : Place → ℕ → ℕ
+scattered None n = 0
+scattered Low5 n = n % 2 ^ 5
+scattered Low16 n = n % 2 ^ 16
+scattered Low26 n = n % 2 ^ 26
+scattered Split n = field n 11 5 * 2 ^ 21 + n % 2 ^ 11
+
+abbrev pub shape : Bool → Bool → Bool → Place → Form → Shape
+shape d a b p f = record { d = d; a = a; b = b; place = p; form = f }
+
+-- the layouts, by number
+unfoldable pub layouts : List Shape
+layouts =
+    shape false false false None Zext ∷
+    shape false false false Low26 Jump ∷
+    shape false false false Low16 Zext ∷
+    shape true false false Low16 Zext ∷
+    shape false false true None Zext ∷
+    shape true true false Low16 Sext ∷
+    shape true true false Low16 Zext ∷
+    shape true true false Low5 Zext ∷
+    shape false true false Low16 Sext ∷
+    shape false true true Split Zext ∷
+    shape false true true Split Sext ∷
+    shape true true true None Zext ∷
+    shape true true false None Zext ∷
+    shape false true true None Zext ∷
+    shape false true false Split Sext ∷
+    []
+
+abbrev pub shapeOf : ℕ → Shape
+shapeOf n = getD layouts n (shape false false false None Zext)
+
+-- the fields of a word of that shape, and the bits that an entry's fields take in it
+abbrev pub fieldsIn : Shape → ℕ → Fields
+fieldsIn t w = record {
+  d = if t .d then field w 21 5 else 0;
+  a = if t .a then field w 16 5 else 0;
+  b = if t .b then field w 11 5 else 0;
+  immediate = immediate (formOf (t .form)) (gathered (t .place) w);
+}
+
+abbrev pub bitsOf : Shape → Fields → ℕ
+bitsOf t f =
+    (if t .d then f .d * 2 ^ 21 else 0) + (if t .a then f .a * 2 ^ 16 else 0) + (if t .b then f .b * 2 ^ 11 else 0)
+    + scattered (t .place) (immediateBits (formOf (t .form)) (f .immediate))
+
+-- t is the shape of kind k
+pub record Describes (k : ℕ) (t : Shape) : Type 0 where
+  pub fields : (w : ℕ) → entry (kindRow k) w ≡ packed (kindRow k .kind) (fieldsIn t w)
+  pub word : (e : ℕ) → wordFor (kindRow k) e ≡ wordFor (kindRow k) 0 + bitsOf t (fieldsOf e)
+  pub small : (e : ℕ) → wordFor (kindRow k) e < 2 ^ 32

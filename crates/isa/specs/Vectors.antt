@@ -1,0 +1,22 @@
+-- The causes of exceptions and their vectors: document 01, "One instruction".
+use Prim.Native.Nat.{ℕ}
+use Rattle.isa.specs.declared.vectors.Cause.{Cause}
+use Rattle.isa.specs.declared.vectors.Cause.the-variants.{Bus, Alignment, Illegal, Range, Syscall, Trap}
+
+-- "Vectors: bus 200, alignment 600, illegal 700, range b00, syscall c00, trap e00."
+abbrev pub vector : Cause → ℕ
+vector Bus = 0x200
+vector Alignment = 0x600
+vector Illegal = 0x700
+vector Range = 0xb00
+vector Syscall = 0xc00
+vector Trap = 0xe00
+
+-- the place of a cause in that order
+abbrev pub number : Cause → ℕ
+number Bus = 0
+number Alignment = 1
+number Illegal = 2
+number Range = 3
+number Syscall = 4
+number Trap = 5
