@@ -1,0 +1,75 @@
+use mathlib.Core.Path.{sym, _∙_}
+use lib.ListN.{length}
+use Rattle.memory.specs.declared.Access.the-variants.{Granted}
+use Rattle.memory.proofs.Laws.{same-tag, granted-inside}
+use Rattle.memory.specs.Memory.{word-wide}
+use Rattle.effect.specs.Effect.{loadLinked}
+use Rattle.effect.proofs.Access.{answered, misaligned, off-bus}
+use borrow.Author.Needs.{needs}
+use Rattle.effect.proofs.accesses.load_linked.Statement.{statement}
+use Rattle.effect.proofs.accesses.load_linked.Tie as tie
+
+address-requires : tie.Need-address-requires
+address-requires c κs = search needs
+
+test-requires : tie.Need-test-requires
+test-requires c κs = word-wide
+
+enum-told : tie.Need-enum-told
+enum-told c = search needs
+
+load-requires : tie.Need-load-requires
+load-requires c κs = let t = c .before .before .test in
+    (word-wide, granted-inside _ _ _ (sym (t .ensures) ∙ same-tag _ Granted (c .before .match .keys1)))
+
+onward-requires : tie.Need-onward-requires
+onward-requires c κs = search needs
+
+no-store-requires : tie.Need-no-store-requires
+no-store-requires c κs = search needs
+
+complete-requires : tie.Need-complete-requires
+complete-requires c κs = search needs
+
+enum-told-2 : tie.Need-enum-told-2
+enum-told-2 c = search needs
+
+fault-requires : tie.Need-fault-requires
+fault-requires c κs = search needs
+
+enum-told-3 : tie.Need-enum-told-3
+enum-told-3 c = search needs
+
+fault-requires-2 : tie.Need-fault-requires-2
+fault-requires-2 c κs = search needs
+
+returns : tie.Need-returns
+unfolding loadLinked
+returns c = answered (c .before .before .before .before .before .before .before .before .before .args .x) 4 (length (c .before .before .before .before .before .before .before .before .before .args .mem .now)) (c .before .before .before .before .before .before .before .address .result) (c .before .before .before .before .before .before .test .result) (c .before .before .before .before .before .before .before .address .ensures) (c .before .before .before .before .before .before .test .ensures) (c .before .before .before .before .before .match .keys1) _ _ (simp (c .complete .ensures, c .before .no-store .ensures, c .before .before .onward .ensures, c .before .before .before .load .ensures .0, c .before .before .before .before .before .before .before .address .ensures))
+
+returns-2 : tie.Need-returns-2
+unfolding loadLinked
+returns-2 c = misaligned (c .before .before .before .before .before .before .args .x) 4 (length (c .before .before .before .before .before .before .args .mem .now)) (c .before .before .before .before .address .result) (c .before .before .before .test .result) (c .before .before .before .before .address .ensures) (c .before .before .before .test .ensures) (c .before .before .match .keys2) _ _ (c .fault .ensures)
+
+returns-3 : tie.Need-returns-3
+unfolding loadLinked
+returns-3 c = off-bus (c .before .before .before .before .before .before .args .x) 4 (length (c .before .before .before .before .before .before .args .mem .now)) (c .before .before .before .before .address .result) (c .before .before .before .test .result) (c .before .before .before .before .address .ensures) (c .before .before .before .test .ensures) (c .before .before .match .keys3) _ _ (c .fault2 .ensures)
+
+pub load-linked-spec : {M : Type 1} → statement M
+load-linked-spec =
+    tie.close
+    (tie.spec
+    address-requires
+    test-requires
+    enum-told
+    load-requires
+    onward-requires
+    no-store-requires
+    complete-requires
+    enum-told-2
+    fault-requires
+    enum-told-3
+    fault-requires-2
+    returns
+    returns-2
+    returns-3)

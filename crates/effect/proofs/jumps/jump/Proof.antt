@@ -1,0 +1,26 @@
+use mathlib.Core.Path.{sym, ap, _∙_}
+use Rattle.effect.specs.Effect.{jump}
+use borrow.Author.Needs.{needs}
+use Rattle.effect.proofs.jumps.jump.Statement.{statement}
+use Rattle.effect.proofs.jumps.jump.Tie as tie
+
+in-slot-requires : tie.Need-in-slot-requires
+in-slot-requires c κs = search needs
+
+illegal-requires : tie.Need-illegal-requires
+illegal-requires c κs = search needs
+
+returns : tie.Need-returns
+unfolding jump
+returns c = simp (c .illegal .ensures, sym (c .before .before .in-slot .ensures) ∙ c .before .if1 .taken)
+
+jumping-requires : tie.Need-jumping-requires
+jumping-requires c κs = search needs
+
+returns-2 : tie.Need-returns-2
+unfolding jump
+returns-2 c = simp (c .jumping .ensures, sym (c .before .before .in-slot .ensures) ∙ c .before .if1 .left)
+
+pub jump-spec : {M : Type 1} → statement M
+jump-spec =
+    tie.close (tie.spec in-slot-requires illegal-requires returns jumping-requires returns-2)

@@ -1,0 +1,36 @@
+use mathlib.Core.Path.{sym, ap, _∙_}
+use Rattle.effect.specs.Effect.{returns as returnsOf}
+use borrow.Author.Needs.{needs}
+use Rattle.effect.proofs.jumps.return_from_exception.Statement.{statement}
+use Rattle.effect.proofs.jumps.return_from_exception.Tie as tie
+
+in-slot-requires : tie.Need-in-slot-requires
+in-slot-requires c κs = search needs
+
+illegal-requires : tie.Need-illegal-requires
+illegal-requires c κs = search needs
+
+returns : tie.Need-returns
+unfolding returnsOf
+returns c = simp (c .illegal .ensures, sym (c .before .before .in-slot .ensures) ∙ c .before .if1 .taken)
+
+no-store-requires : tie.Need-no-store-requires
+no-store-requires c κs = search needs
+
+complete-requires : tie.Need-complete-requires
+complete-requires c κs = search needs
+
+returns-2 : tie.Need-returns-2
+unfolding returnsOf
+returns-2 c = simp (c .complete .ensures, c .before .no-store .ensures, sym (c .before .before .before .before .in-slot .ensures) ∙ c .before .before .before .if1 .left)
+
+pub return-from-exception-spec : {M : Type 1} → statement M
+return-from-exception-spec =
+    tie.close
+    (tie.spec
+    in-slot-requires
+    illegal-requires
+    returns
+    no-store-requires
+    complete-requires
+    returns-2)

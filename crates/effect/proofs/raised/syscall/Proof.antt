@@ -1,0 +1,36 @@
+use mathlib.Core.Path.{sym, ap, _∙_}
+use Rattle.effect.specs.Effect.{syscall}
+use borrow.Author.Needs.{needs}
+use Rattle.effect.proofs.raised.syscall.Statement.{statement}
+use Rattle.effect.proofs.raised.syscall.Tie as tie
+
+in-slot-requires : tie.Need-in-slot-requires
+in-slot-requires c κs = search needs
+
+illegal-requires : tie.Need-illegal-requires
+illegal-requires c κs = search needs
+
+returns : tie.Need-returns
+unfolding syscall
+returns c = simp (c .illegal .ensures, sym (c .before .before .in-slot .ensures) ∙ c .before .if1 .taken)
+
+address-add-requires : tie.Need-address-add-requires
+address-add-requires c κs = search needs
+
+raise-requires : tie.Need-raise-requires
+raise-requires c κs = search needs
+
+returns-2 : tie.Need-returns-2
+unfolding syscall
+returns-2 c = simp (c .raise .ensures, c .before .address-add .ensures, sym (c .before .before .before .in-slot .ensures) ∙ c .before .before .if1 .left)
+
+pub syscall-spec : {M : Type 1} → statement M
+syscall-spec =
+    tie.close
+    (tie.spec
+    in-slot-requires
+    illegal-requires
+    returns
+    address-add-requires
+    raise-requires
+    returns-2)

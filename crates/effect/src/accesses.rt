@@ -1,0 +1,149 @@
+// Loads, stores and the cache instructions: each tests its access first.
+ghost use mathlib.Core.Path.{_≡_};
+ghost use lib.ListN.{length};
+ghost use Rattle.memory.specs.Memory.{Width};
+ghost use Rattle.effect.specs.Effect.{effectiveAddress, load as loadOf, loadLinked, storing as storingOf, store as storeOf, linked as linkedOf, storeConditional, touch as touchOf, noLink, noStore};
+ghost use Rattle.bits.specs.Choice.{if_then_else_};
+use crate::completed;
+use crate::raised;
+use crate::types::Effect;
+use crate::types::Inputs;
+use crate::types::Link;
+use crate::types::Store;
+use isa::vectors::Cause;
+use memory::Access;
+
+fn address(x: Inputs) -> u32
+    ensures { λ r. ⌜ r ≡ effectiveAddress x ⌝ }
+{
+    arith::address_add(x.a, x.immediate)
+}
+
+pub fn load(x: Inputs, mem: &[u8], width: u32, signed: bool) -> Effect
+    requires { ⌜ Width width ⌝ }
+    ensures { λ r. ⌜ r ≡ loadOf x (now (mem .entry)) width signed ⌝ }
+{
+    let at = address(x);
+    match memory::test(mem.len(), at, width) {
+        Access::Granted => completed::write(x, memory::load_extended(mem, at, width, signed)),
+        Access::Misaligned => raised::fault(x, Cause::Alignment, at),
+        Access::BusError => raised::fault(x, Cause::Bus, at),
+    }
+}
+
+// l.lwa.
+pub fn load_linked(x: Inputs, mem: &[u8]) -> Effect
+    ensures { λ r. ⌜ r ≡ loadLinked x (now (mem .entry)) ⌝ }
+{
+    let at = address(x);
+    match memory::test(mem.len(), at, 4) {
+        Access::Granted => {
+            let link = Link {
+                held: 1,
+                address: at,
+            };
+            let value = memory::load(mem, at, 4);
+            completed::complete(
+                x.d,
+                value,
+                x.sr,
+                completed::onward(x),
+                link,
+                3,
+                completed::no_store(),
+            )
+        }
+        Access::Misaligned => raised::fault(x, Cause::Alignment, at),
+        Access::BusError => raised::fault(x, Cause::Bus, at),
+    }
+}
+
+fn storing(x: Inputs, width: u32) -> Store
+    ensures { λ r. ⌜ r ≡ storingOf x width ⌝ }
+{
+    Store {
+        width,
+        address: address(x),
+        value: x.b,
+    }
+}
+
+pub fn store(x: Inputs, len: usize, width: u32) -> Effect
+    requires { ⌜ Width width ⌝ }
+    ensures { λ r. ⌜ r ≡ storeOf x len width ⌝ }
+{
+    let at = address(x);
+    match memory::test(len, at, width) {
+        Access::Granted => {
+            let link = x.link;
+            completed::complete(0, 0, x.sr, completed::onward(x), link, 3, storing(x, width))
+        }
+        Access::Misaligned => raised::fault(x, Cause::Alignment, at),
+        Access::BusError => raised::fault(x, Cause::Bus, at),
+    }
+}
+
+// The link is to the word at the address.
+fn linked(x: Inputs) -> bool
+    ensures { λ r. ⌜ r ≡ linkedOf x ⌝ }
+{
+    if x.link.held == 1 {
+        x.link.address == address(x)
+    } else {
+        false
+    }
+}
+
+fn no_link() -> Link
+    ensures { λ r. ⌜ r ≡ noLink ⌝ }
+{
+    Link {
+        held: 0,
+        address: 0,
+    }
+}
+
+// What l.swa stores.
+fn conditional(x: Inputs, t: bool) -> Store
+    ensures { λ r. ⌜ r ≡ (if t then storingOf x 4 else noStore) ⌝ }
+{
+    if t {
+        return storing(x, 4);
+    }
+    completed::no_store()
+}
+
+// l.swa.
+pub fn store_conditional(x: Inputs, len: usize) -> Effect
+    ensures { λ r. ⌜ r ≡ storeConditional x len ⌝ }
+{
+    let at = address(x);
+    match memory::test(len, at, 4) {
+        Access::Granted => {
+            let t = linked(x);
+            completed::complete(
+                0,
+                0,
+                arith::set_flag(x.sr, t),
+                completed::onward(x),
+                no_link(),
+                3,
+                conditional(x, t),
+            )
+        }
+        Access::Misaligned => raised::fault(x, Cause::Alignment, at),
+        Access::BusError => raised::fault(x, Cause::Bus, at),
+    }
+}
+
+// p.*.
+pub fn touch(x: Inputs, len: usize) -> Effect
+    ensures { λ r. ⌜ r ≡ touchOf x len ⌝ }
+{
+    let at = address(x);
+    match memory::test(len, at, 1) {
+        Access::Granted => completed::nothing(x),
+        Access::Misaligned => raised::fault(x, Cause::Alignment, at),
+        Access::BusError => raised::fault(x, Cause::Bus, at),
+    }
+}

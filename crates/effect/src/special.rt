@@ -1,0 +1,33 @@
+// The special-purpose registers.
+ghost use mathlib.Core.Path.{_≡_};
+ghost use Rattle.effect.specs.Effect.{specialRegister, setsSpecialRegister};
+use crate::completed;
+use crate::types::Board;
+use crate::types::Effect;
+use crate::types::Inputs;
+
+pub fn read(board: Board, x: Inputs, n: u32) -> u32
+    ensures { λ r. ⌜ r ≡ specialRegister board x n ⌝ }
+{
+    match n {
+        17 => x.sr,
+        32 => x.epcr,
+        48 => x.eear,
+        64 => x.esr,
+        128 => x.core,
+        129 => board.cores,
+        _ => 0,
+    }
+}
+
+pub fn write(x: Inputs, n: u32, v: u32) -> Effect
+    ensures { λ r. ⌜ r ≡ setsSpecialRegister x n v ⌝ }
+{
+    match n {
+        17 => completed::advance(x, 0, 0, arith::keep_allowed(v)),
+        32 => completed::advance(x, 36, arith::align(v), x.sr),
+        48 => completed::advance(x, 37, v, x.sr),
+        64 => completed::advance(x, 38, arith::keep_allowed(v), x.sr),
+        _ => completed::nothing(x),
+    }
+}

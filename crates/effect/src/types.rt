@@ -1,0 +1,67 @@
+// What an instruction reads and what it does, by value.
+use isa::vectors::Cause;
+
+// Where execution goes on: the next instruction, whether it is in a delay slot, and where it goes after the slot.
+pub struct Flow {
+    pub pc: u32,
+    pub delay: u32,
+    pub target: u32,
+}
+
+// The link of l.lwa and l.swa.
+pub struct Link {
+    pub held: u32,
+    pub address: u32,
+}
+
+// The bytes that an instruction stores; width 0 is none.
+pub struct Store {
+    pub width: u32,
+    pub address: u32,
+    pub value: u32,
+}
+
+pub struct Exception {
+    pub cause: Cause,
+    pub epcr: u32,
+    pub eear: u32,
+    pub esr: u32,
+}
+
+// How a step ends.
+pub enum Outcome {
+    Completed,
+    Raised(Exception),
+}
+
+// What every instruction of a run is given beside its core's state.
+pub struct Board {
+    pub cores: u32,
+}
+
+// An instruction's fields, its registers' values, and its core's state before it.
+pub struct Inputs {
+    pub core: u32,
+    pub d: u32,
+    pub a: u32,
+    pub b: u32,
+    pub immediate: u32,
+    pub flow: Flow,
+    pub sr: u32,
+    pub epcr: u32,
+    pub eear: u32,
+    pub esr: u32,
+    pub link: Link,
+}
+
+// What an instruction does: the one word of its state that it writes besides SR, the flow, the link and the mode; its store; how it ends.
+pub struct Effect {
+    pub place: u32,
+    pub value: u32,
+    pub sr: u32,
+    pub flow: Flow,
+    pub link: Link,
+    pub mode: u32,
+    pub store: Store,
+    pub outcome: Outcome,
+}
