@@ -1,0 +1,121 @@
+use borrow.Author.Needs.{needs}
+use borrow.Author.Tests.{ne-eqb}
+use Rattle.semantics.specs.Meaning.{immediates}
+use Rattle.semantics.proofs.immediate.Statement.{statement}
+use Rattle.semantics.proofs.immediate.Tie as tie
+
+add-requires : tie.Need-add-requires
+add-requires c κs = search needs
+
+sum-requires : tie.Need-sum-requires
+sum-requires c κs = search needs
+
+carry-requires : tie.Need-carry-requires
+carry-requires c κs = search needs
+
+add-requires-2 : tie.Need-add-requires-2
+add-requires-2 c κs = search needs
+
+sum-requires-2 : tie.Need-sum-requires-2
+sum-requires-2 c κs = search needs
+
+and-requires : tie.Need-and-requires
+and-requires c κs = search needs
+
+write-requires : tie.Need-write-requires
+write-requires c κs = search needs
+
+or-requires : tie.Need-or-requires
+or-requires c κs = search needs
+
+write-requires-2 : tie.Need-write-requires-2
+write-requires-2 c κs = search needs
+
+xor-requires : tie.Need-xor-requires
+xor-requires c κs = search needs
+
+write-requires-3 : tie.Need-write-requires-3
+write-requires-3 c κs = search needs
+
+or-requires-2 : tie.Need-or-requires-2
+or-requires-2 c κs = search needs
+
+read-requires : tie.Need-read-requires
+read-requires c κs = search needs
+
+write-requires-4 : tie.Need-write-requires-4
+write-requires-4 c κs = search needs
+
+sll-requires : tie.Need-sll-requires
+sll-requires c κs = search needs
+
+write-requires-5 : tie.Need-write-requires-5
+write-requires-5 c κs = search needs
+
+srl-requires : tie.Need-srl-requires
+srl-requires c κs = search needs
+
+write-requires-6 : tie.Need-write-requires-6
+write-requires-6 c κs = search needs
+
+sra-requires : tie.Need-sra-requires
+sra-requires c κs = search needs
+
+write-requires-7 : tie.Need-write-requires-7
+write-requires-7 c κs = search needs
+
+ror-requires : tie.Need-ror-requires
+ror-requires c κs = search needs
+
+write-requires-8 : tie.Need-write-requires-8
+write-requires-8 c κs = search needs
+
+illegal-requires : tie.Need-illegal-requires
+illegal-requires c κs = search needs
+
+returns : tie.Need-returns
+unfolding immediates
+returns c = simp (c .sum .ensures, c .before .add .ensures .0, c .before .before .match .keys1)
+
+returns-2 : tie.Need-returns-2
+unfolding immediates
+returns-2 c = simp (c .sum2 .ensures, c .before .add2 .ensures .0, c .before .before .carry .ensures .0, c .before .before .before .match .keys2)
+
+returns-3 : tie.Need-returns-3
+unfolding immediates
+returns-3 c = simp (c .write .ensures, c .before .and .ensures, c .before .before .match .keys3)
+
+returns-4 : tie.Need-returns-4
+unfolding immediates
+returns-4 c = simp (c .write2 .ensures, c .before .or .ensures, c .before .before .match .keys4)
+
+returns-5 : tie.Need-returns-5
+unfolding immediates
+returns-5 c = simp (c .write3 .ensures, c .before .xor .ensures, c .before .before .match .keys5)
+
+returns-6 : tie.Need-returns-6
+unfolding immediates
+returns-6 c = simp (c .write4 .ensures, c .before .read .ensures, c .before .before .or2 .ensures, c .before .before .before .match .keys6)
+
+returns-7 : tie.Need-returns-7
+unfolding immediates
+returns-7 c = simp (c .write5 .ensures, c .before .sll .ensures, c .before .before .match .keys7)
+
+returns-8 : tie.Need-returns-8
+unfolding immediates
+returns-8 c = simp (c .write6 .ensures, c .before .srl .ensures, c .before .before .match .keys8)
+
+returns-9 : tie.Need-returns-9
+unfolding immediates
+returns-9 c = simp (c .write7 .ensures, c .before .sra .ensures, c .before .before .match .keys9)
+
+returns-10 : tie.Need-returns-10
+unfolding immediates
+returns-10 c = simp (c .write8 .ensures, c .before .ror .ensures, c .before .before .match .keys10)
+
+returns-11 : tie.Need-returns-11
+unfolding immediates
+returns-11 c = simp (c .illegal .ensures, ne-eqb _ _ (c .before .match .rest .1), ne-eqb _ _ (c .before .match .rest .0 .1), ne-eqb _ _ (c .before .match .rest .0 .0 .1), ne-eqb _ _ (c .before .match .rest .0 .0 .0 .1), ne-eqb _ _ (c .before .match .rest .0 .0 .0 .0 .1), ne-eqb _ _ (c .before .match .rest .0 .0 .0 .0 .0 .1), ne-eqb _ _ (c .before .match .rest .0 .0 .0 .0 .0 .0 .1), ne-eqb _ _ (c .before .match .rest .0 .0 .0 .0 .0 .0 .0 .1), ne-eqb _ _ (c .before .match .rest .0 .0 .0 .0 .0 .0 .0 .0 .1), ne-eqb _ _ (c .before .match .rest .0 .0 .0 .0 .0 .0 .0 .0 .0 .1))
+
+pub immediate-spec : {M : Type 1} → statement M
+immediate-spec = tie.close (tie.spec add-requires sum-requires carry-requires add-requires-2 sum-requires-2 and-requires write-requires or-requires write-requires-2 xor-requires write-requires-3 or-requires-2 read-requires write-requires-4 sll-requires write-requires-5 srl-requires write-requires-6 sra-requires write-requires-7 ror-requires write-requires-8 illegal-requires returns returns-2 returns-3 returns-4 returns-5 returns-6 returns-7 returns-8 returns-9 returns-10 returns-11)

@@ -1,0 +1,149 @@
+-- What each kind does, a line a kind, in the order of document 01's "Words and kinds". k is the kind, x what the instruction reads.
+use mathlib.Core.Bool.{Bool, true, false, not}
+use mathlib.Core.List.{List}
+use Prim.Native.Nat.{ℕ}
+use lib.Bits.{bitAnd, bitOr, bitXor}
+use lib.Dec.{eqb, ltb}
+use lib.ListN.{length}
+use Rattle.bits.specs.Choice.{if_then_else_}
+use Rattle.bits.specs.Word.{bitAt, extend}
+use Rattle.arith.specs.Bit.{isSet}
+use Rattle.arith.specs.Status.{F, CY}
+use Rattle.arith.specs.Sums.{sum, difference}
+use Rattle.arith.specs.Compare.{holds}
+use Rattle.arith.specs.Shift.{shiftLeft, shiftRight, shiftRightSigned, rotateRight, highHalf}
+use Rattle.arith.specs.Place.{least, greatest}
+use Rattle.effect.specs.Effect.{writes, nothing, setsFlag, nop, illegal, trap, syscall, sums, sumsOrRaises, jump, relative, afterSlot, branch, registerJump, returns, load, loadLinked, store, storeConditional, touch, specialRegister, setsSpecialRegister}
+use Rattle.effect.specs.declared.types.Inputs.{Inputs}
+use Rattle.effect.specs.declared.types.Board.{Board}
+use Rattle.effect.specs.declared.types.Effect.{Effect}
+
+-- jumps, branches, exceptions, and what only goes on
+unfoldable pub control : ℕ → Inputs → Effect
+control k x =
+    if eqb k 2 then jump x 0 0 (relative x) else  -- l.j
+    if eqb k 3 then jump x 9 (afterSlot x) (relative x) else  -- l.jal
+    if eqb k 4 then branch x (not (isSet F (x .sr))) else  -- l.bnf
+    if eqb k 5 then branch x (isSet F (x .sr)) else  -- l.bf
+    if eqb k 6 then nop x else  -- l.nop
+    if eqb k 7 then writes x (highHalf (x .immediate)) else  -- l.movhi
+    if eqb k 8 then syscall x else  -- l.sys
+    if eqb k 9 then trap x else  -- l.trap
+    if eqb k 10 then nothing x else  -- l.msync
+    if eqb k 11 then nothing x else  -- l.psync
+    if eqb k 12 then nothing x else  -- l.csync
+    if eqb k 13 then returns x else  -- l.rfe
+    if eqb k 14 then registerJump x 0 0 else  -- l.jr
+    if eqb k 15 then registerJump x 9 (afterSlot x) else  -- l.jalr
+    illegal x
+
+-- loads
+unfoldable pub loads : List ℕ → ℕ → Inputs → Effect
+loads mem k x =
+    if eqb k 16 then loadLinked x mem else  -- l.lwa
+    if eqb k 17 then load x mem 4 false else  -- l.lwz
+    if eqb k 18 then load x mem 4 true else  -- l.lws
+    if eqb k 19 then load x mem 1 false else  -- l.lbz
+    if eqb k 20 then load x mem 1 true else  -- l.lbs
+    if eqb k 21 then load x mem 2 false else  -- l.lhz
+    if eqb k 22 then load x mem 2 true else  -- l.lhs
+    illegal x
+
+-- sums, logic and shifts with an immediate
+unfoldable pub immediates : Board → ℕ → Inputs → Effect
+immediates board k x =
+    if eqb k 23 then sums x (sum (x .a) (x .immediate) 0) else  -- l.addi
+    if eqb k 24 then sums x (sum (x .a) (x .immediate) (bitAt CY (x .sr))) else  -- l.addic
+    if eqb k 25 then writes x (bitAnd (x .a) (x .immediate)) else  -- l.andi
+    if eqb k 26 then writes x (bitOr (x .a) (x .immediate)) else  -- l.ori
+    if eqb k 27 then writes x (bitXor (x .a) (x .immediate)) else  -- l.xori
+    if eqb k 28 then writes x (specialRegister board x (bitOr (x .a) (x .immediate))) else  -- l.mfspr
+    if eqb k 29 then writes x (shiftLeft (x .a) (x .immediate)) else  -- l.slli
+    if eqb k 30 then writes x (shiftRight (x .a) (x .immediate)) else  -- l.srli
+    if eqb k 31 then writes x (shiftRightSigned (x .a) (x .immediate)) else  -- l.srai
+    if eqb k 32 then writes x (rotateRight (x .a) (x .immediate)) else  -- l.rori
+    illegal x
+
+-- set flag immediate
+unfoldable pub compareImmediates : ℕ → Inputs → Effect
+compareImmediates k x =
+    if eqb k 33 then setsFlag x (holds 0x0 (x .a) (x .immediate)) else  -- l.sfeqi
+    if eqb k 34 then setsFlag x (holds 0x1 (x .a) (x .immediate)) else  -- l.sfnei
+    if eqb k 35 then setsFlag x (holds 0x2 (x .a) (x .immediate)) else  -- l.sfgtui
+    if eqb k 36 then setsFlag x (holds 0x3 (x .a) (x .immediate)) else  -- l.sfgeui
+    if eqb k 37 then setsFlag x (holds 0x4 (x .a) (x .immediate)) else  -- l.sfltui
+    if eqb k 38 then setsFlag x (holds 0x5 (x .a) (x .immediate)) else  -- l.sfleui
+    if eqb k 39 then setsFlag x (holds 0xa (x .a) (x .immediate)) else  -- l.sfgtsi
+    if eqb k 40 then setsFlag x (holds 0xb (x .a) (x .immediate)) else  -- l.sfgesi
+    if eqb k 41 then setsFlag x (holds 0xc (x .a) (x .immediate)) else  -- l.sfltsi
+    if eqb k 42 then setsFlag x (holds 0xd (x .a) (x .immediate)) else  -- l.sflesi
+    illegal x
+
+-- l.mtspr and the stores
+unfoldable pub stores : ℕ → ℕ → Inputs → Effect
+stores len k x =
+    if eqb k 43 then setsSpecialRegister x (bitOr (x .a) (x .immediate)) (x .b) else  -- l.mtspr
+    if eqb k 44 then storeConditional x len else  -- l.swa
+    if eqb k 45 then store x len 4 else  -- l.sw
+    if eqb k 46 then store x len 1 else  -- l.sb
+    if eqb k 47 then store x len 2 else  -- l.sh
+    illegal x
+
+-- sums, logic, shifts and extensions of registers
+unfoldable pub registers : ℕ → Inputs → Effect
+registers k x =
+    if eqb k 48 then sumsOrRaises x (sum (x .a) (x .b) 0) else  -- l.add
+    if eqb k 49 then sumsOrRaises x (sum (x .a) (x .b) (bitAt CY (x .sr))) else  -- l.addc
+    if eqb k 50 then sumsOrRaises x (difference (x .a) (x .b)) else  -- l.sub
+    if eqb k 51 then writes x (bitAnd (x .a) (x .b)) else  -- l.and
+    if eqb k 52 then writes x (bitOr (x .a) (x .b)) else  -- l.or
+    if eqb k 53 then writes x (bitXor (x .a) (x .b)) else  -- l.xor
+    if eqb k 54 then writes x (shiftLeft (x .a) (x .b)) else  -- l.sll
+    if eqb k 55 then writes x (shiftRight (x .a) (x .b)) else  -- l.srl
+    if eqb k 56 then writes x (shiftRightSigned (x .a) (x .b)) else  -- l.sra
+    if eqb k 57 then writes x (rotateRight (x .a) (x .b)) else  -- l.ror
+    if eqb k 58 then writes x (extend true 16 (x .a)) else  -- l.exths
+    if eqb k 59 then writes x (extend true 8 (x .a)) else  -- l.extbs
+    if eqb k 60 then writes x (extend false 16 (x .a)) else  -- l.exthz
+    if eqb k 61 then writes x (extend false 8 (x .a)) else  -- l.extbz
+    if eqb k 62 then writes x (x .a) else  -- l.extws
+    if eqb k 63 then writes x (x .a) else  -- l.extwz
+    if eqb k 64 then writes x (if isSet F (x .sr) then x .a else x .b) else  -- l.cmov
+    if eqb k 65 then writes x (least 32 (x .a)) else  -- l.ff1
+    if eqb k 66 then writes x (greatest 32 (x .a)) else  -- l.fl1
+    illegal x
+
+-- set flag
+unfoldable pub compares : ℕ → Inputs → Effect
+compares k x =
+    if eqb k 67 then setsFlag x (holds 0x0 (x .a) (x .b)) else  -- l.sfeq
+    if eqb k 68 then setsFlag x (holds 0x1 (x .a) (x .b)) else  -- l.sfne
+    if eqb k 69 then setsFlag x (holds 0x2 (x .a) (x .b)) else  -- l.sfgtu
+    if eqb k 70 then setsFlag x (holds 0x3 (x .a) (x .b)) else  -- l.sfgeu
+    if eqb k 71 then setsFlag x (holds 0x4 (x .a) (x .b)) else  -- l.sfltu
+    if eqb k 72 then setsFlag x (holds 0x5 (x .a) (x .b)) else  -- l.sfleu
+    if eqb k 73 then setsFlag x (holds 0xa (x .a) (x .b)) else  -- l.sfgts
+    if eqb k 74 then setsFlag x (holds 0xb (x .a) (x .b)) else  -- l.sfges
+    if eqb k 75 then setsFlag x (holds 0xc (x .a) (x .b)) else  -- l.sflts
+    if eqb k 76 then setsFlag x (holds 0xd (x .a) (x .b)) else  -- l.sfles
+    illegal x
+
+-- the cache instructions, which only test their byte
+unfoldable pub caches : ℕ → ℕ → Inputs → Effect
+caches len k x =
+    if eqb k 77 then touch x len else  -- p.cinvalidate
+    if eqb k 78 then touch x len else  -- p.cwriteback
+    if eqb k 79 then touch x len else  -- p.cflush
+    illegal x
+
+-- The instruction of kind k on memory mem. A number that is no kind is illegal, as kind 1 is.
+unfoldable pub meaning : Board → List ℕ → ℕ → Inputs → Effect
+meaning board mem k x =
+    if ltb k 16 then control k x else
+    if ltb k 23 then loads mem k x else
+    if ltb k 33 then immediates board k x else
+    if ltb k 43 then compareImmediates k x else
+    if ltb k 48 then stores (length mem) k x else
+    if ltb k 67 then registers k x else
+    if ltb k 77 then compares k x else
+    caches (length mem) k x

@@ -1,0 +1,190 @@
+// What each kind does, a line a kind, in the order of document 01.
+ghost use mathlib.Core.Path.{_≡_};
+ghost use lib.ListN.{length};
+ghost use Rattle.semantics.specs.Meaning.{control as controlOf, loads, immediates, compareImmediates, stores, registers, compares, caches, meaning};
+use effect::accesses;
+use effect::completed;
+use effect::jumps;
+use effect::raised;
+use effect::special;
+use effect::sums;
+use effect::types::Board;
+use effect::types::Effect;
+use effect::types::Inputs;
+
+// Jumps, branches, exceptions, and what only goes on.
+fn control(kind: u8, x: Inputs) -> Effect
+    ensures { λ r. ⌜ r ≡ controlOf kind x ⌝ }
+{
+    match kind {
+        2 => jumps::jump(x, 0, 0, jumps::relative(x)),
+        3 => jumps::jump(x, 9, jumps::after_slot(x), jumps::relative(x)),
+        4 => jumps::branch(x, !arith::flag(x.sr)),
+        5 => jumps::branch(x, arith::flag(x.sr)),
+        6 => completed::nop(x),
+        7 => completed::write(x, arith::movhi(x.immediate)),
+        8 => raised::syscall(x),
+        9 => raised::trap(x),
+        10 => completed::nothing(x),
+        11 => completed::nothing(x),
+        12 => completed::nothing(x),
+        13 => jumps::return_from_exception(x),
+        14 => jumps::register_jump(x, 0, 0),
+        15 => jumps::register_jump(x, 9, jumps::after_slot(x)),
+        _ => raised::illegal(x),
+    }
+}
+
+// Loads.
+fn load(mem: &[u8], kind: u8, x: Inputs) -> Effect
+    ensures { λ r. ⌜ r ≡ loads (now (mem .entry)) kind x ⌝ }
+{
+    match kind {
+        16 => accesses::load_linked(x, mem),
+        17 => accesses::load(x, mem, 4, false),
+        18 => accesses::load(x, mem, 4, true),
+        19 => accesses::load(x, mem, 1, false),
+        20 => accesses::load(x, mem, 1, true),
+        21 => accesses::load(x, mem, 2, false),
+        22 => accesses::load(x, mem, 2, true),
+        _ => raised::illegal(x),
+    }
+}
+
+// Sums, logic and shifts with an immediate.
+fn immediate(board: Board, kind: u8, x: Inputs) -> Effect
+    ensures { λ r. ⌜ r ≡ immediates board kind x ⌝ }
+{
+    match kind {
+        23 => sums::sum(x, arith::add(x.a, x.immediate, 0)),
+        24 => sums::sum(x, arith::add(x.a, x.immediate, arith::carry(x.sr))),
+        25 => completed::write(x, arith::and(x.a, x.immediate)),
+        26 => completed::write(x, arith::or(x.a, x.immediate)),
+        27 => completed::write(x, arith::xor(x.a, x.immediate)),
+        28 => completed::write(x, special::read(board, x, arith::or(x.a, x.immediate))),
+        29 => completed::write(x, arith::sll(x.a, x.immediate)),
+        30 => completed::write(x, arith::srl(x.a, x.immediate)),
+        31 => completed::write(x, arith::sra(x.a, x.immediate)),
+        32 => completed::write(x, arith::ror(x.a, x.immediate)),
+        _ => raised::illegal(x),
+    }
+}
+
+// Set flag immediate.
+fn compare_immediate(kind: u8, x: Inputs) -> Effect
+    ensures { λ r. ⌜ r ≡ compareImmediates kind x ⌝ }
+{
+    match kind {
+        33 => completed::set_flag(x, arith::compare(0x0, x.a, x.immediate)),
+        34 => completed::set_flag(x, arith::compare(0x1, x.a, x.immediate)),
+        35 => completed::set_flag(x, arith::compare(0x2, x.a, x.immediate)),
+        36 => completed::set_flag(x, arith::compare(0x3, x.a, x.immediate)),
+        37 => completed::set_flag(x, arith::compare(0x4, x.a, x.immediate)),
+        38 => completed::set_flag(x, arith::compare(0x5, x.a, x.immediate)),
+        39 => completed::set_flag(x, arith::compare(0xa, x.a, x.immediate)),
+        40 => completed::set_flag(x, arith::compare(0xb, x.a, x.immediate)),
+        41 => completed::set_flag(x, arith::compare(0xc, x.a, x.immediate)),
+        42 => completed::set_flag(x, arith::compare(0xd, x.a, x.immediate)),
+        _ => raised::illegal(x),
+    }
+}
+
+// L.mtspr and the stores.
+fn store(len: usize, kind: u8, x: Inputs) -> Effect
+    ensures { λ r. ⌜ r ≡ stores len kind x ⌝ }
+{
+    match kind {
+        43 => special::write(x, arith::or(x.a, x.immediate), x.b),
+        44 => accesses::store_conditional(x, len),
+        45 => accesses::store(x, len, 4),
+        46 => accesses::store(x, len, 1),
+        47 => accesses::store(x, len, 2),
+        _ => raised::illegal(x),
+    }
+}
+
+// Sums, logic, shifts and extensions of registers.
+fn register(kind: u8, x: Inputs) -> Effect
+    ensures { λ r. ⌜ r ≡ registers kind x ⌝ }
+{
+    match kind {
+        48 => sums::sum_or_raise(x, arith::add(x.a, x.b, 0)),
+        49 => sums::sum_or_raise(x, arith::add(x.a, x.b, arith::carry(x.sr))),
+        50 => sums::sum_or_raise(x, arith::sub(x.a, x.b)),
+        51 => completed::write(x, arith::and(x.a, x.b)),
+        52 => completed::write(x, arith::or(x.a, x.b)),
+        53 => completed::write(x, arith::xor(x.a, x.b)),
+        54 => completed::write(x, arith::sll(x.a, x.b)),
+        55 => completed::write(x, arith::srl(x.a, x.b)),
+        56 => completed::write(x, arith::sra(x.a, x.b)),
+        57 => completed::write(x, arith::ror(x.a, x.b)),
+        58 => completed::write(x, bits::sign_extend(x.a, 16)),
+        59 => completed::write(x, bits::sign_extend(x.a, 8)),
+        60 => completed::write(x, bits::zero_extend(x.a, 16)),
+        61 => completed::write(x, bits::zero_extend(x.a, 8)),
+        62 => completed::write(x, x.a),
+        63 => completed::write(x, x.a),
+        64 => completed::write(x, arith::cmov(arith::flag(x.sr), x.a, x.b)),
+        65 => completed::write(x, arith::ff1(x.a)),
+        66 => completed::write(x, arith::fl1(x.a)),
+        _ => raised::illegal(x),
+    }
+}
+
+// Set flag.
+fn compare(kind: u8, x: Inputs) -> Effect
+    ensures { λ r. ⌜ r ≡ compares kind x ⌝ }
+{
+    match kind {
+        67 => completed::set_flag(x, arith::compare(0x0, x.a, x.b)),
+        68 => completed::set_flag(x, arith::compare(0x1, x.a, x.b)),
+        69 => completed::set_flag(x, arith::compare(0x2, x.a, x.b)),
+        70 => completed::set_flag(x, arith::compare(0x3, x.a, x.b)),
+        71 => completed::set_flag(x, arith::compare(0x4, x.a, x.b)),
+        72 => completed::set_flag(x, arith::compare(0x5, x.a, x.b)),
+        73 => completed::set_flag(x, arith::compare(0xa, x.a, x.b)),
+        74 => completed::set_flag(x, arith::compare(0xb, x.a, x.b)),
+        75 => completed::set_flag(x, arith::compare(0xc, x.a, x.b)),
+        76 => completed::set_flag(x, arith::compare(0xd, x.a, x.b)),
+        _ => raised::illegal(x),
+    }
+}
+
+// The cache instructions, which only test their byte.
+fn cache(len: usize, kind: u8, x: Inputs) -> Effect
+    ensures { λ r. ⌜ r ≡ caches len kind x ⌝ }
+{
+    match kind {
+        77 => accesses::touch(x, len),
+        78 => accesses::touch(x, len),
+        79 => accesses::touch(x, len),
+        _ => raised::illegal(x),
+    }
+}
+
+pub fn effect_of(board: Board, mem: &[u8], kind: u8, x: Inputs) -> Effect
+    ensures { λ r. ⌜ r ≡ meaning board (now (mem .entry)) kind x ⌝ }
+{
+    if kind < 16 {
+        return control(kind, x);
+    }
+    if kind < 23 {
+        return load(mem, kind, x);
+    }
+    if kind < 33 {
+        return immediate(board, kind, x);
+    }
+    if kind < 43 {
+        return compare_immediate(kind, x);
+    }
+    if kind < 48 {
+        return store(mem.len(), kind, x);
+    }
+    if kind < 67 {
+        return register(kind, x);
+    }
+    if kind < 77 {
+        return compare(kind, x);
+    }
+    cache(mem.len(), kind, x)
+}
