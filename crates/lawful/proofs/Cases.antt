@@ -1,0 +1,42 @@
+-- A fact about a choice, from what holds in each of its cases. Assumes nothing.
+use mathlib.Core.Bool.{Bool, true, false}
+use mathlib.Core.Path.{_≡_, refl}
+use Prim.Native.Nat.{ℕ}
+use lib.Dec.{eqb}
+use borrow.Author.Tests.{eqb-true, eqb-false}
+use Rattle.bits.specs.Choice.{if_then_else_}
+use Rattle.isa.specs.declared.vectors.Cause.{Cause}
+use Rattle.isa.specs.declared.vectors.Cause.the-variants.{Bus, Alignment}
+use Rattle.memory.specs.Memory.{access}
+use Rattle.memory.specs.declared.Access.{Access}
+use Rattle.memory.specs.declared.Access.the-variants.{Granted, Misaligned, BusError}
+use Rattle.effect.specs.Effect.{effectiveAddress, faults, granted, reaches}
+use Rattle.effect.specs.declared.types.Inputs.{Inputs}
+use Rattle.effect.specs.declared.types.Effect.{Effect}
+
+module _ {A : Type 0} (P : A → Type 0) where
+  pub if-law : {e f : A} (b : Bool) → (b ≡ true → P e) → (b ≡ false → P f) → P (if b then e else f)
+  if-law true p q = p refl
+  if-law false p q = q refl
+
+  pub if-both : {e f : A} (b : Bool) → P e → P f → P (if b then e else f)
+  if-both true p q = p
+  if-both false p q = q
+
+-- two numbers are equal or not
+pub by-equality : (a b : ℕ) {P : Type 0} → (a ≡ b → P) → ((a ≡ b → ⊥) → P) → P
+by-equality a b {P} f g = go (eqb a b) refl
+  where
+    go : (t : Bool) → eqb a b ≡ t → P
+    go true e = f (eqb-true a b e)
+    go false e = g (eqb-false a b e)
+
+-- an access is granted, or its instruction faults
+pub reaches-law : (P : Effect → Type 0) (x : Inputs) (n len : ℕ) {e : Effect} → (access n len (effectiveAddress x) ≡ Granted → P e)
+    → ((cause : Cause) (eear : ℕ) → P (faults x cause eear)) → P (reaches x n len e)
+reaches-law P x n len {e} p q = go (access n len (effectiveAddress x)) refl
+  where
+    go : (a : Access) → access n len (effectiveAddress x) ≡ a → P (granted x a (effectiveAddress x) e)
+    go Granted h = p h
+    go Misaligned h = q Alignment (effectiveAddress x)
+    go BusError h = q Bus (effectiveAddress x)

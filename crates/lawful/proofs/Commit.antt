@@ -1,0 +1,200 @@
+-- What an effect leaves in the states: its core's words read back, every other core's, and that accepted states stay accepted. Assumes nothing.
+use mathlib.Core.Bool.{Bool, true, false, _&&_}
+use mathlib.Core.List.{List, [], _∷_}
+use mathlib.Core.Path.{_≡_, refl, ap, _∙_}
+use Prim.Native.Nat.{ℕ, _+_, _*_, _<_, _≤_}
+use native.Mathlib.Omega.{arith}
+use lib.Dec.{T, eqb, ltb, ltb→lt}
+use lib.ListN.{length, length-set}
+use lib.Seq.{getD-set-same, getD-set-other}
+use borrow.Author.Tests.{ne-eqb, eqb-true, eqb-false}
+use Rattle.bits.specs.Choice.{if_then_else_}
+use Rattle.bits.proofs.Tests.{and-left, and-right}
+use Rattle.effect.specs.State.{stateWords, pcAt, delayAt, targetAt, srAt, epcrAt, eearAt, esrAt, linkAt, linkAddressAt, modeAt}
+use Rattle.effect.specs.declared.types.Outcome.{Outcome}
+use Rattle.effect.specs.declared.types.Outcome.the-variants.{Completed, Raised}
+use Rattle.effect.specs.declared.types.Effect.{Effect}
+use Rattle.semantics.specs.Commit.{wordAt, put, putValue, putFlow, putStatus, putException, ownState}
+use Rattle.lawful.specs.Rules.{Status, Multiple, LawfulState, LawfulWord, to-register, to-epcr, to-eear, to-esr, LawfulOutcome, completes, raised, Lawful}
+use Rattle.lawful.specs.Accepted.{Accepted}
+use Rattle.lawful.proofs.Cases.{if-law, if-both}
+
+-- ---- several words put into one core's state: pairs of a place and a word
+
+abbrev pub puts : List (ℕ × ℕ) → List ℕ → ℕ → List ℕ
+puts [] s core = s
+puts (p ∷ l) s core = puts l (put s core (p .0) (p .1)) core
+
+-- the word then at place j, where d was
+abbrev pub seen : List (ℕ × ℕ) → ℕ → ℕ → ℕ
+seen [] j d = d
+seen (p ∷ l) j d = seen l j (if eqb (p .0) j then p .1 else d)
+
+abbrev pub inside : List (ℕ × ℕ) → Bool
+inside [] = true
+inside (p ∷ l) = ltb (p .0) stateWords && inside l
+
+pub length-puts : (l : List (ℕ × ℕ)) (s : List ℕ) (core : ℕ) → length (puts l s core) ≡ length s
+length-puts [] s core = refl
+length-puts (p ∷ l) s core = length-puts l (put s core (p .0) (p .1)) core ∙ simp length-set
+
+pub puts-seen : (l : List (ℕ × ℕ)) (s : List ℕ) (core j : ℕ) → core * stateWords + j < length s → wordAt (puts l s core) core j ≡ seen l j (wordAt s core j)
+puts-seen [] s core j h = refl
+puts-seen (p ∷ l) s core j h =
+    puts-seen l (put s core (p .0) (p .1)) core j (rw length-set h) ∙ ap (seen l j) (one (eqb (p .0) j) refl)
+  where
+    one : (b : Bool) → eqb (p .0) j ≡ b → wordAt (put s core (p .0) (p .1)) core j ≡ (if b then p .1 else wordAt s core j)
+    one true q = let e : p .0 ≡ j = eqb-true _ _ q in rw e (getD-set-same s (core * stateWords + j) (p .1) 0 h)
+    one false q = getD-set-other s (core * stateWords + p .0) (core * stateWords + j) (p .1) 0 (λ z. eqb-false (p .0) j q (omega arith))
+
+pub puts-other : (l : List (ℕ × ℕ)) (s : List ℕ) (core c j : ℕ) → T (inside l) → (c ≡ core → ⊥) → j < stateWords → wordAt (puts l s core) c j ≡ wordAt s c j
+puts-other [] s core c j t n h = refl
+puts-other (p ∷ l) s core c j t n h =
+    let i : p .0 < stateWords = ltb→lt (p .0) stateWords (and-left (ltb (p .0) stateWords) (inside l) t) in
+    puts-other l (put s core (p .0) (p .1)) core c j (and-right (ltb (p .0) stateWords) (inside l) t) n h
+    ∙ getD-set-other s (core * stateWords + p .0) (c * stateWords + j) (p .1) 0 (λ z. n (omega arith))
+
+-- ---- an effect in its own core's state
+
+abbrev always : Effect → List (ℕ × ℕ) → List (ℕ × ℕ)
+always e l =
+    (pcAt, e .flow .pc) ∷ (delayAt, e .flow .delay) ∷ (targetAt, e .flow .target) ∷ (srAt, e .sr) ∷ (linkAt, e .link .held)
+    ∷ (linkAddressAt, e .link .address) ∷ (modeAt, e .mode) ∷ l
+
+abbrev exceptional : Outcome → List (ℕ × ℕ)
+exceptional Completed = []
+exceptional (Raised x) = (epcrAt, x .epcr) ∷ (eearAt, x .eear) ∷ (esrAt, x .esr) ∷ []
+
+-- what an effect puts there, after its value
+abbrev pub changes : Effect → Outcome → List (ℕ × ℕ)
+changes e o = always e (exceptional o)
+
+changes-inside : (e : Effect) (o : Outcome) → T (inside (changes e o))
+changes-inside e Completed = tt
+changes-inside e (Raised x) = tt
+
+own-puts : (s : List ℕ) (core : ℕ) (e : Effect) → ownState s core e ≡ puts (changes e (e .outcome)) (putValue s core e) core
+unfolding ownState putStatus putFlow putException
+own-puts s core e = go (e .outcome)
+  where
+    go : (o : Outcome) → putException o (putStatus (putFlow (putValue s core e) core e) core e) core ≡ puts (changes e o) (putValue s core e) core
+    go Completed = refl
+    go (Raised x) = refl
+
+length-value : (s : List ℕ) (core : ℕ) (e : Effect) → length (putValue s core e) ≡ length s
+unfolding putValue
+length-value s core e = if-both (λ (t : List ℕ). length t ≡ length s) (eqb (e .place) 0) refl (simp length-set)
+
+pub length-own : (s : List ℕ) (core : ℕ) (e : Effect) → length (ownState s core e) ≡ length s
+length-own s core e = ap length (own-puts s core e) ∙ length-puts (changes e (e .outcome)) (putValue s core e) core ∙ length-value s core e
+
+-- another core's state
+pub own-other : (s : List ℕ) (core : ℕ) (e : Effect) (c j : ℕ) → e .place < stateWords → (c ≡ core → ⊥) → j < stateWords
+    → wordAt (ownState s core e) c j ≡ wordAt s c j
+unfolding putValue
+own-other s core e c j h n g =
+    ap (λ (t : List ℕ). wordAt t c j) (own-puts s core e)
+    ∙ puts-other (changes e (e .outcome)) (putValue s core e) core c j (changes-inside e (e .outcome)) n g
+    ∙ if-both (λ (t : List ℕ). wordAt t c j ≡ wordAt s c j) (eqb (e .place) 0) refl
+    (getD-set-other s (core * stateWords + e .place) (c * stateWords + j) (e .value) 0 (λ z. n (omega arith)))
+
+-- ---- an accepted state stays accepted
+
+pub lawful-same : (g h : ℕ → ℕ) → ((j : ℕ) → j < stateWords → h j ≡ g j) → LawfulState g → LawfulState h
+lawful-same g h q a =
+    let r0 : h 0 ≡ g 0 = q 0 (omega arith) in
+    let r32 : h pcAt ≡ g pcAt = q pcAt (omega arith) in
+    let r33 : h delayAt ≡ g delayAt = q delayAt (omega arith) in
+    let r34 : h targetAt ≡ g targetAt = q targetAt (omega arith) in
+    let r35 : h srAt ≡ g srAt = q srAt (omega arith) in
+    let r36 : h epcrAt ≡ g epcrAt = q epcrAt (omega arith) in
+    let r38 : h esrAt ≡ g esrAt = q esrAt (omega arith) in
+    let r39 : h linkAt ≡ g linkAt = q linkAt (omega arith) in
+    let r40 : h linkAddressAt ≡ g linkAddressAt = q linkAddressAt (omega arith) in
+    let r41 : h modeAt ≡ g modeAt = q modeAt (omega arith) in
+    record {
+      zero-register = r0 ∙ a .zero-register;
+      flow-lawful = rw (r32, r33, r34) (a .flow-lawful);
+      link-lawful = rw (r39, r40) (a .link-lawful);
+      sr-lawful = rw r35 (a .sr-lawful);
+      epcr-lawful = rw r36 (a .epcr-lawful);
+      esr-lawful = rw r38 (a .esr-lawful);
+      mode-lawful = rw r41 (a .mode-lawful);
+    }
+
+-- r0, EPCR and ESR after the value is written
+record Value (g : ℕ → ℕ) : Type 0 where
+  zero-kept : g 0 ≡ 0
+  epcr-kept : Multiple (g epcrAt)
+  esr-kept : Status (g esrAt)
+
+module _ (s : List ℕ) (core : ℕ) (fits : core * stateWords + stateWords ≤ length s) (a : Accepted s core) where
+  value-kept : (p v : ℕ) → LawfulWord p v → Value (wordAt (if eqb p 0 then s else put s core p v) core)
+  value-kept p v w =
+      if-law (λ (t : List ℕ). Value (wordAt t core)) (eqb p 0)
+      (λ _. record { zero-kept = a .zero-register; epcr-kept = a .epcr-lawful; esr-kept = a .esr-lawful })
+      (λ n. go w (eqb-false p 0 n))
+    where
+      at : (p v j : ℕ) → j < stateWords → wordAt (put s core p v) core j ≡ (if eqb p j then v else wordAt s core j)
+      at p v j h = puts-seen ((p, v) ∷ []) s core j (omega arith)
+
+      other : (p v j : ℕ) → j < stateWords → (p ≡ j → ⊥) → wordAt (put s core p v) core j ≡ wordAt s core j
+      other p v j h n = at p v j h ∙ rw (ne-eqb p j n)
+
+      go : {p v : ℕ} → LawfulWord p v → (p ≡ 0 → ⊥) → Value (wordAt (put s core p v) core)
+      go {p} {v} (to-register h) n =
+          record {
+            zero-kept = other p v 0 (omega arith) n ∙ a .zero-register;
+            epcr-kept = rw (other p v epcrAt (omega arith) (λ z. omega arith)) (a .epcr-lawful);
+            esr-kept = rw (other p v esrAt (omega arith) (λ z. omega arith)) (a .esr-lawful);
+          }
+      go {p} {v} (to-epcr m) n =
+          record {
+            zero-kept = at epcrAt v 0 (omega arith) ∙ a .zero-register;
+            epcr-kept = rw (at epcrAt v epcrAt (omega arith)) m;
+            esr-kept = rw (at epcrAt v esrAt (omega arith)) (a .esr-lawful);
+          }
+      go {p} {v} to-eear n =
+          record {
+            zero-kept = at eearAt v 0 (omega arith) ∙ a .zero-register;
+            epcr-kept = rw (at eearAt v epcrAt (omega arith)) (a .epcr-lawful);
+            esr-kept = rw (at eearAt v esrAt (omega arith)) (a .esr-lawful);
+          }
+      go {p} {v} (to-esr m) n =
+          record {
+            zero-kept = at esrAt v 0 (omega arith) ∙ a .zero-register;
+            epcr-kept = rw (at esrAt v epcrAt (omega arith)) (a .epcr-lawful);
+            esr-kept = rw (at esrAt v esrAt (omega arith)) m;
+          }
+
+  changed : (e : Effect) → Lawful e → {o : Outcome} → LawfulOutcome o → (t : List ℕ) → Value (wordAt t core)
+      → LawfulState (λ j. seen (changes e o) j (wordAt t core j))
+  changed e l completes t v =
+      record {
+        zero-register = v .zero-kept;
+        flow-lawful = l .flow-lawful;
+        link-lawful = l .link-lawful;
+        sr-lawful = l .sr-lawful;
+        epcr-lawful = v .epcr-kept;
+        esr-lawful = v .esr-kept;
+        mode-lawful = l .mode-lawful;
+      }
+  changed e l (raised m q) t v =
+      record {
+        zero-register = v .zero-kept;
+        flow-lawful = l .flow-lawful;
+        link-lawful = l .link-lawful;
+        sr-lawful = l .sr-lawful;
+        epcr-lawful = m;
+        esr-lawful = q;
+        mode-lawful = l .mode-lawful;
+      }
+
+  pub own-accepted : (e : Effect) → Lawful e → Accepted (ownState s core e) core
+  unfolding putValue
+  own-accepted e l =
+      let t = putValue s core e in
+      let n : length t ≡ length s = length-value s core e in
+      lawful-same (λ j. seen (changes e (e .outcome)) j (wordAt t core j)) (wordAt (ownState s core e) core)
+      (λ j h. ap (λ (u : List ℕ). wordAt u core j) (own-puts s core e) ∙ puts-seen (changes e (e .outcome)) t core j (omega arith))
+      (changed e l (l .outcome-lawful) t (value-kept (e .place) (e .value) (l .word-lawful)))

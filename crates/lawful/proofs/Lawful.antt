@@ -1,0 +1,235 @@
+-- Every instruction's effect obeys the rules on a core's state, if what it reads does. Assumes nothing.
+use mathlib.Core.Bool.{Bool, _&&_}
+use mathlib.Core.List.{List}
+use mathlib.Core.Path.{_≡_, refl, ap₂, _∙_}
+use Prim.Native.Nat.{ℕ, _+_, _%_, _<_, _≤_}
+use native.Mathlib.Omega.{arith}
+use lib.Dec.{eqb, ltb}
+use lib.IntN.{subℕ, _-ℤ_}
+use lib.ListN.{length}
+use borrow.Author.Tests.{ltb-false}
+use Rattle.bits.specs.Word.{bit, word}
+use Rattle.isa.specs.Vectors.{vector}
+use Rattle.isa.specs.declared.vectors.Cause.{Cause}
+use Rattle.isa.specs.declared.vectors.Cause.the-variants.{Bus, Alignment, Illegal, Range, Syscall, Trap}
+use Rattle.arith.specs.Bit.{isSet}
+use Rattle.arith.specs.Status.{OVE, aligned}
+use Rattle.arith.specs.Sums.{addressSum, addressDifference}
+use Rattle.arith.specs.declared.Flagged.{Flagged}
+use Rattle.arith.proofs.Integer.{by-sign, sub-sub, sub-zero}
+use Rattle.arith.proofs.Status.{allowed-flag, allowed-carry-overflow, allowed-exception, allowed-again, aligned-multiple}
+use Rattle.arith.proofs.Sums.{Ranged, bit-lt, address-sum-multiple}
+use Rattle.memory.proofs.Laws.{granted-aligned}
+use Rattle.effect.specs.State.{epcrAt, eearAt, esrAt}
+use Rattle.effect.specs.Effect.{completed, inSlot, onward, advances, nop, setsFlag, restart, raises, faults, syscall, flags, sums, sumsOrRaises, jumping, jump, branch, registerJump, returns, load, loadLinked, linked, store, storeConditional, touch, setsSpecialRegister}
+use Rattle.effect.specs.declared.types.Inputs.{Inputs}
+use Rattle.effect.specs.declared.types.Board.{Board}
+use Rattle.effect.specs.declared.types.Flow.{Flow}
+use Rattle.effect.specs.declared.types.Link.{Link}
+use Rattle.effect.specs.declared.types.Store.{Store}
+use Rattle.semantics.specs.Meaning.{meaning}
+use Rattle.lawful.specs.Rules.{Status, Multiple, LawfulFlow, LawfulLink, Mode, is-halted, is-running, LawfulInputs, LawfulWord, to-register, to-epcr, to-eear, to-esr, completes, raised, Lawful}
+use Rattle.lawful.proofs.Cases.{if-law, if-both, reaches-law}
+use Rattle.lawful.proofs.Table.{meaning-has}
+
+-- a difference of multiples of 4 is one, whatever their size
+difference-multiple : (a b : ℕ) → Multiple a → Multiple b → Multiple (addressDifference a b)
+unfolding addressDifference word
+difference-multiple a b ma mb =
+    let e : a + 0 ≡ a = omega arith in
+    let f : 0 + b ≡ b = omega arith in
+    rw (ap₂ _-ℤ_ (sub-zero a) (sub-zero b) ∙ sub-sub a 0 b 0 ∙ ap₂ subℕ e f)
+    (by-sign a b (λ z. Multiple (word z)) (λ h. omega arith) (λ h. omega arith))
+
+vector-multiple : (c : Cause) → Multiple (vector c)
+vector-multiple Bus = refl
+vector-multiple Alignment = refl
+vector-multiple Illegal = refl
+vector-multiple Range = refl
+vector-multiple Syscall = refl
+vector-multiple Trap = refl
+
+-- no slot follows
+straight : (pc : ℕ) → Multiple pc → LawfulFlow (record { pc = pc; delay = 0; target = 0 })
+straight pc h = record { delay-bit = omega arith; pc-multiple = h; target-multiple = refl; no-target = λ _. refl }
+
+pub no-link-lawful : LawfulLink (record { held = 0; address = 0 })
+no-link-lawful = record { held-bit = omega arith; address-multiple = refl; no-address = λ _. refl }
+
+-- a completed instruction
+completed-lawful : {place v sr mode : ℕ} {flow : Flow} {link : Link} {store : Store} → LawfulWord place v → Status sr → LawfulFlow flow → LawfulLink link
+    → Mode mode → Lawful (completed place v sr flow link mode store)
+completed-lawful w s f l m =
+    record { word-lawful = w; flow-lawful = f; link-lawful = l; sr-lawful = s; mode-lawful = m; outcome-lawful = completes }
+
+-- ---- the effects, one by one
+
+module _ (x : Inputs) (i : LawfulInputs x) where
+  next-multiple : (n : ℕ) → Multiple n → Multiple (addressSum (x .flow .pc) n)
+  next-multiple n h = address-sum-multiple (x .flow .pc) n (i .flow-lawful .pc-multiple) h
+
+  onward-lawful : LawfulFlow (onward x)
+  unfolding onward
+  onward-lawful = straight _ (if-both Multiple (inSlot x) (i .flow-lawful .target-multiple) (next-multiple 4 refl))
+
+  restart-multiple : Multiple (restart x)
+  unfolding restart
+  restart-multiple =
+      if-both Multiple (inSlot x) (difference-multiple (x .flow .pc) 4 (i .flow-lawful .pc-multiple) refl) (i .flow-lawful .pc-multiple)
+
+  pub advances-lawful : (place v sr : ℕ) → LawfulWord place v → Status sr → Lawful (advances x place v sr)
+  unfolding advances
+  advances-lawful place v sr w s =
+      completed-lawful w s onward-lawful (i .link-lawful) is-running
+
+  pub nothing-lawful : Lawful (advances x 0 0 (x .sr))
+  nothing-lawful = advances-lawful 0 0 (x .sr) (to-register (omega arith)) (i .sr-lawful)
+
+  pub writes-lawful : (v : ℕ) → Lawful (advances x (x .d) v (x .sr))
+  writes-lawful v = advances-lawful (x .d) v (x .sr) (to-register (i .register)) (i .sr-lawful)
+
+  pub flag-lawful : (t : Bool) → Lawful (setsFlag x t)
+  unfolding setsFlag
+  flag-lawful t = advances-lawful 0 0 _ (to-register (omega arith)) (allowed-flag (x .sr) (i .sr-lawful) (bit t) (bit-lt t))
+
+  pub nop-lawful : Lawful (nop x)
+  unfolding nop
+  nop-lawful =
+      if-both Lawful (eqb (x .immediate) 1)
+      (completed-lawful (to-register (omega arith)) (i .sr-lawful) onward-lawful (i .link-lawful) is-halted)
+      nothing-lawful
+
+  pub raises-lawful : (place v sr : ℕ) (cause : Cause) (epcr eear : ℕ) → LawfulWord place v → Status sr → Multiple epcr
+      → Lawful (raises x place v sr cause epcr eear)
+  unfolding raises
+  raises-lawful place v sr cause epcr eear w s m =
+      record {
+        word-lawful = w;
+        flow-lawful = straight _ (vector-multiple cause);
+        link-lawful = no-link-lawful;
+        sr-lawful = allowed-exception sr s (bit (inSlot x)) (bit-lt (inSlot x));
+        mode-lawful = is-running;
+        outcome-lawful = raised m s;
+      }
+
+  pub faults-lawful : (cause : Cause) (eear : ℕ) → Lawful (faults x cause eear)
+  faults-lawful cause eear = raises-lawful 0 0 (x .sr) cause (restart x) eear (to-register (omega arith)) (i .sr-lawful) restart-multiple
+
+  pub syscall-lawful : Lawful (syscall x)
+  unfolding syscall
+  syscall-lawful =
+      if-both Lawful (inSlot x) (faults-lawful _ _)
+      (raises-lawful 0 0 (x .sr) _ _ _ (to-register (omega arith)) (i .sr-lawful) (next-multiple 4 refl))
+
+  flags-lawful : (f : Flagged) → Ranged f → Status (flags x f)
+  flags-lawful f r = allowed-carry-overflow (x .sr) (i .sr-lawful) (f .carry) (f .overflow) (r .carry-lt) (r .overflow-lt)
+
+  pub sums-lawful : (f : Flagged) → Ranged f → Lawful (sums x f)
+  unfolding sums
+  sums-lawful f r = advances-lawful (x .d) (f .value) _ (to-register (i .register)) (flags-lawful f r)
+
+  pub raising-sums-lawful : (f : Flagged) → Ranged f → Lawful (sumsOrRaises x f)
+  unfolding sumsOrRaises
+  raising-sums-lawful f r =
+      if-both Lawful (isSet OVE (x .sr) && eqb (f .overflow) 1)
+      (raises-lawful (x .d) (f .value) _ _ _ _ (to-register (i .register)) (flags-lawful f r) restart-multiple)
+      (sums-lawful f r)
+
+  jumping-lawful : (place v to : ℕ) → place < 32 → Multiple to → Lawful (jumping x place v to)
+  jumping-lawful place v to h m =
+      completed-lawful (to-register h) (i .sr-lawful)
+      (record { delay-bit = omega arith; pc-multiple = next-multiple 4 refl; target-multiple = m; no-target = λ e. absurd (omega arith) })
+      (i .link-lawful) is-running
+
+  pub jump-lawful : (place v to : ℕ) → place < 32 → Multiple to → Lawful (jump x place v to)
+  unfolding jump
+  jump-lawful place v to h m = if-both Lawful (inSlot x) (faults-lawful _ _) (jumping-lawful place v to h m)
+
+  pub branch-lawful : Multiple (x .immediate) → (taken : Bool) → Lawful (branch x taken)
+  unfolding branch
+  branch-lawful m taken =
+      jump-lawful 0 0 _ (omega arith) (if-both Multiple taken (next-multiple (x .immediate) m) (next-multiple 8 refl))
+
+  pub register-jump-lawful : (place v : ℕ) → place < 32 → Lawful (registerJump x place v)
+  unfolding registerJump
+  register-jump-lawful place v h =
+      if-both Lawful (inSlot x) (faults-lawful _ _)
+      (if-law Lawful (ltb 0 (x .b % 4)) (λ _. faults-lawful Alignment (x .b))
+      (λ e. let l : x .b % 4 ≤ 0 = ltb-false _ _ e in jumping-lawful place v (x .b) h (omega arith)))
+
+  pub return-lawful : Lawful (returns x)
+  unfolding returns
+  return-lawful =
+      if-both Lawful (inSlot x) (faults-lawful _ _)
+      (completed-lawful (to-register (omega arith)) (i .esr-lawful) (straight _ (i .epcr-lawful)) (i .link-lawful) is-running)
+
+  pub load-lawful : (mem : List ℕ) (n : ℕ) (sign : Bool) → Lawful (load x mem n sign)
+  unfolding load
+  load-lawful mem n sign = reaches-law Lawful x n (length mem) (λ g. writes-lawful _) faults-lawful
+
+  pub load-linked-lawful : (mem : List ℕ) → Lawful (loadLinked x mem)
+  unfolding loadLinked
+  load-linked-lawful mem =
+      reaches-law Lawful x 4 (length mem)
+      (λ g.
+      completed-lawful (to-register (i .register)) (i .sr-lawful) onward-lawful
+      (record { held-bit = omega arith; address-multiple = granted-aligned 4 (length mem) _ g; no-address = λ e. absurd (omega arith) })
+      is-running)
+      faults-lawful
+
+  pub store-lawful : (len n : ℕ) → Lawful (store x len n)
+  unfolding store
+  store-lawful len n =
+      reaches-law Lawful x n len
+      (λ g. completed-lawful (to-register (omega arith)) (i .sr-lawful) onward-lawful (i .link-lawful) is-running)
+      faults-lawful
+
+  pub store-conditional-lawful : (len : ℕ) → Lawful (storeConditional x len)
+  unfolding storeConditional
+  store-conditional-lawful len =
+      reaches-law Lawful x 4 len
+      (λ g.
+      completed-lawful (to-register (omega arith)) (allowed-flag (x .sr) (i .sr-lawful) (bit (linked x)) (bit-lt (linked x))) onward-lawful
+      no-link-lawful is-running)
+      faults-lawful
+
+  pub touch-lawful : (len : ℕ) → Lawful (touch x len)
+  unfolding touch
+  touch-lawful len = reaches-law Lawful x 1 len (λ g. nothing-lawful) faults-lawful
+
+  pub special-lawful : (n v : ℕ) → Lawful (setsSpecialRegister x n v)
+  unfolding setsSpecialRegister
+  special-lawful n v =
+      if-both Lawful (eqb n 17) (advances-lawful 0 0 _ (to-register (omega arith)) (allowed-again v)) (
+      if-both Lawful (eqb n 32) (advances-lawful epcrAt (aligned v) _ (to-epcr (aligned-multiple v)) (i .sr-lawful)) (
+      if-both Lawful (eqb n 48) (advances-lawful eearAt v _ to-eear (i .sr-lawful)) (
+      if-both Lawful (eqb n 64) (advances-lawful esrAt _ _ (to-esr (allowed-again v)) (i .sr-lawful)) (
+      nothing-lawful))))
+
+  -- ---- every instruction: a jump or branch by its immediate needs a multiple of 4
+
+  pub meaning-lawful : (board : Board) (mem : List ℕ) (k : ℕ) → (2 ≤ k → k ≤ 5 → Multiple (x .immediate)) → Lawful (meaning board mem k x)
+  meaning-lawful board mem k m =
+      meaning-has Lawful (Multiple (x .immediate)) board mem x
+      record {
+        of-writes = writes-lawful;
+        of-nothing = nothing-lawful;
+        of-flag = flag-lawful;
+        of-nop = nop-lawful;
+        of-illegal = faults-lawful _ _;
+        of-trap = faults-lawful _ _;
+        of-syscall = syscall-lawful;
+        of-sums = sums-lawful;
+        of-raising-sums = raising-sums-lawful;
+        of-jump = λ j place v h. jump-lawful place v _ h (next-multiple (x .immediate) j);
+        of-branch = branch-lawful;
+        of-register-jump = register-jump-lawful;
+        of-return = return-lawful;
+        of-load = load-lawful mem;
+        of-load-linked = load-linked-lawful mem;
+        of-store = λ w. store-lawful (length mem) _;
+        of-store-conditional = store-conditional-lawful (length mem);
+        of-touch = touch-lawful (length mem);
+        of-special = special-lawful;
+      }
+      k m

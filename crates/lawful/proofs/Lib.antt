@@ -1,0 +1,11 @@
+-- Laws of the definitions: no function here.
+pub mod Cases
+pub mod Table
+pub mod Sound
+pub mod Accepted
+pub mod Lawful
+pub mod Jumps
+pub mod Commit
+pub mod Links
+pub mod States
+pub mod Instruction

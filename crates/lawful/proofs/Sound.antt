@@ -1,0 +1,146 @@
+-- Every instruction's effect is sound. Assumes nothing.
+use mathlib.Core.Bool.{Bool, _&&_}
+use mathlib.Core.List.{List}
+use mathlib.Core.Path.{_≡_, refl}
+use Prim.Native.Nat.{ℕ, _%_, _<_}
+use native.Mathlib.Omega.{arith}
+use lib.Dec.{eqb, ltb}
+use lib.ListN.{length}
+use Rattle.isa.specs.declared.vectors.Cause.{Cause}
+use Rattle.isa.specs.declared.vectors.Cause.the-variants.{Alignment}
+use Rattle.memory.specs.Memory.{Width, word-wide, access}
+use Rattle.memory.specs.declared.Access.the-variants.{Granted}
+use Rattle.memory.proofs.Laws.{granted-inside, granted-in-word}
+use Rattle.arith.specs.Bit.{isSet}
+use Rattle.arith.specs.Status.{OVE}
+use Rattle.arith.specs.declared.Flagged.{Flagged}
+use Rattle.effect.specs.State.{stateWords, epcrAt, eearAt, esrAt}
+use Rattle.effect.specs.Effect.{inSlot, advances, nop, setsFlag, raises, faults, syscall, sums, sumsOrRaises, jump, branch, registerJump, returns, load, loadLinked, storing, store, linked, storeConditional, touch, setsSpecialRegister, effectiveAddress}
+use Rattle.effect.specs.declared.types.Inputs.{Inputs}
+use Rattle.effect.specs.declared.types.Board.{Board}
+use Rattle.semantics.specs.Meaning.{meaning}
+use Rattle.lawful.specs.Sound.{Sound, InWord, SoundStore, none, some}
+use Rattle.lawful.proofs.Cases.{if-both, reaches-law}
+use Rattle.lawful.proofs.Table.{meaning-has}
+
+-- ---- the effects, one by one
+
+module _ (len : ℕ) (x : Inputs) where
+  pub advances-sound : (place v sr : ℕ) → place < stateWords → Sound len (advances x place v sr)
+  unfolding advances
+  advances-sound place v sr h = record { place-lt = h; sound-store = none refl }
+
+  pub flag-sound : (t : Bool) → Sound len (setsFlag x t)
+  unfolding setsFlag
+  flag-sound t = advances-sound 0 0 _ (omega arith)
+
+  pub nop-sound : Sound len (nop x)
+  unfolding nop
+  nop-sound =
+      if-both (Sound len) (eqb (x .immediate) 1) (record { place-lt = omega arith; sound-store = none refl })
+      (advances-sound 0 0 (x .sr) (omega arith))
+
+  pub raises-sound : (place v sr : ℕ) (cause : Cause) (epcr eear : ℕ) → place < stateWords → Sound len (raises x place v sr cause epcr eear)
+  unfolding raises
+  raises-sound place v sr cause epcr eear h = record { place-lt = h; sound-store = none refl }
+
+  pub faults-sound : (cause : Cause) (eear : ℕ) → Sound len (faults x cause eear)
+  faults-sound cause eear = raises-sound 0 0 _ cause _ eear (omega arith)
+
+  pub syscall-sound : Sound len (syscall x)
+  unfolding syscall
+  syscall-sound = if-both (Sound len) (inSlot x) (faults-sound _ _) (raises-sound 0 0 _ _ _ _ (omega arith))
+
+  pub jump-sound : (place v to : ℕ) → place < stateWords → Sound len (jump x place v to)
+  unfolding jump
+  jump-sound place v to h = if-both (Sound len) (inSlot x) (faults-sound _ _) (record { place-lt = h; sound-store = none refl })
+
+  pub branch-sound : (taken : Bool) → Sound len (branch x taken)
+  unfolding branch
+  branch-sound taken = jump-sound 0 0 _ (omega arith)
+
+  pub register-jump-sound : (place v : ℕ) → place < stateWords → Sound len (registerJump x place v)
+  unfolding registerJump
+  register-jump-sound place v h =
+      if-both (Sound len) (inSlot x) (faults-sound _ _)
+      (if-both (Sound len) (ltb 0 (x .b % 4)) (faults-sound Alignment (x .b)) (record { place-lt = h; sound-store = none refl }))
+
+  pub return-sound : Sound len (returns x)
+  unfolding returns
+  return-sound = if-both (Sound len) (inSlot x) (faults-sound _ _) (record { place-lt = omega arith; sound-store = none refl })
+
+  pub touch-sound : Sound len (touch x len)
+  unfolding touch
+  touch-sound = reaches-law (Sound len) x 1 len (λ g. advances-sound 0 0 (x .sr) (omega arith)) faults-sound
+
+  -- a granted access stores into one word
+  storing-in-word : {n : ℕ} → Width n → access n len (effectiveAddress x) ≡ Granted → InWord len (storing x n)
+  storing-in-word {n} w g = record { wide = w; inside = granted-inside n len _ g; in-word = granted-in-word w len _ g }
+
+  pub store-sound : {n : ℕ} → Width n → Sound len (store x len n)
+  unfolding store
+  store-sound {n} w =
+      reaches-law (Sound len) x n len (λ g. record { place-lt = omega arith; sound-store = some (storing-in-word w g) }) faults-sound
+
+  pub store-conditional-sound : Sound len (storeConditional x len)
+  unfolding storeConditional
+  store-conditional-sound =
+      reaches-law (Sound len) x 4 len
+      (λ g. record { place-lt = omega arith; sound-store = if-both (SoundStore len) (linked x) (some (storing-in-word word-wide g)) (none refl) })
+      faults-sound
+
+  pub special-sound : (n v : ℕ) → Sound len (setsSpecialRegister x n v)
+  unfolding setsSpecialRegister
+  special-sound n v =
+      if-both (Sound len) (eqb n 17) (advances-sound 0 0 _ (omega arith)) (
+      if-both (Sound len) (eqb n 32) (advances-sound epcrAt _ _ (omega arith)) (
+      if-both (Sound len) (eqb n 48) (advances-sound eearAt v _ (omega arith)) (
+      if-both (Sound len) (eqb n 64) (advances-sound esrAt _ _ (omega arith)) (
+      advances-sound 0 0 _ (omega arith)))))
+
+  -- the destination is a register
+  module _ (d : x .d < 32) where
+    pub sums-sound : (f : Flagged) → Sound len (sums x f)
+    unfolding sums
+    sums-sound f = advances-sound (x .d) (f .value) _ (omega arith)
+
+    pub raising-sums-sound : (f : Flagged) → Sound len (sumsOrRaises x f)
+    unfolding sumsOrRaises
+    raising-sums-sound f = if-both (Sound len) (isSet OVE (x .sr) && eqb (f .overflow) 1) (raises-sound (x .d) (f .value) _ _ _ _ (omega arith)) (sums-sound f)
+
+    pub load-sound : (mem : List ℕ) (n : ℕ) (sign : Bool) → Sound len (load x mem n sign)
+    unfolding load
+    load-sound mem n sign = reaches-law (Sound len) x n (length mem) (λ g. advances-sound (x .d) _ (x .sr) (omega arith)) faults-sound
+
+    pub load-linked-sound : (mem : List ℕ) → Sound len (loadLinked x mem)
+    unfolding loadLinked
+    load-linked-sound mem = reaches-law (Sound len) x 4 (length mem) (λ g. record { place-lt = omega arith; sound-store = none refl }) faults-sound
+
+-- ---- every instruction
+
+pub meaning-sound : (board : Board) (mem : List ℕ) (k : ℕ) (x : Inputs) → x .d < 32 → Sound (length mem) (meaning board mem k x)
+meaning-sound board mem k x d =
+    let len = length mem in
+    meaning-has (Sound len) Unit board mem x
+    record {
+      of-writes = λ v. advances-sound len x (x .d) v (x .sr) (omega arith);
+      of-nothing = advances-sound len x 0 0 (x .sr) (omega arith);
+      of-flag = flag-sound len x;
+      of-nop = nop-sound len x;
+      of-illegal = faults-sound len x _ _;
+      of-trap = faults-sound len x _ _;
+      of-syscall = syscall-sound len x;
+      of-sums = λ f _. sums-sound len x d f;
+      of-raising-sums = λ f _. raising-sums-sound len x d f;
+      of-jump = λ _ place v h. jump-sound len x place v _ (omega arith);
+      of-branch = λ _ taken. branch-sound len x taken;
+      of-register-jump = λ place v h. register-jump-sound len x place v (omega arith);
+      of-return = return-sound len x;
+      of-load = λ n sign. load-sound len x d mem n sign;
+      of-load-linked = load-linked-sound len x d mem;
+      of-store = store-sound len x;
+      of-store-conditional = store-conditional-sound len x;
+      of-touch = touch-sound len x;
+      of-special = special-sound len x;
+    }
+    k (λ _ _. tt)
