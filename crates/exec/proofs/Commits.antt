@@ -1,0 +1,71 @@
+-- What a commit leaves, with and without a store. Assumes nothing.
+use mathlib.Core.Bool.{true, false}
+use mathlib.Core.List.{List}
+use mathlib.Core.Path.{_≡_, refl, sym, ap, ap₂, subst, _∙_}
+use Prim.Native.Nat.{ℕ, zero, suc, _+_, _*_, _/_, _≤_, _<_}
+use native.Mathlib.Omega.{arith}
+use denote.Enum.Declared.{tagOf}
+use lib.ListN.{length}
+use borrow.Author.Tests.{lt-ltb, le-ltb}
+use Rattle.memory.specs.Memory.{Width, stored}
+use Rattle.isa.specs.declared.vectors.Cause.{Cause}
+use Rattle.effect.specs.Effect.{raises, faults}
+use Rattle.effect.specs.declared.types.Inputs.{Inputs}
+use Rattle.effect.specs.declared.types.Effect.{Effect}
+use Rattle.effect.specs.declared.types.Store.{Store}
+use Rattle.effect.specs.declared.types.Outcome.{Outcome}
+use Rattle.effect.specs.declared.types.Outcome.the-variants.{Completed, Raised}
+use Rattle.effect.proofs.types.Outcome.{the-type}
+use Rattle.semantics.specs.Commit.{ownState, clearLinks, coreCount, statesAfter, memoryAfter, touched}
+use Rattle.lawful.specs.Sound.{Sound, InWord, SoundStore, none, some}
+use Rattle.exec.specs.Report.{raisedBy, Executed}
+use Rattle.exec.specs.declared.Done.{Done}
+
+-- the same effect under another name
+pub executed-as : {mem s mem′ s′ : List ℕ} {core : ℕ} {e e′ : Effect} {r : Done} → e ≡ e′ → Executed mem s core e mem′ s′ r →
+    Executed mem s core e′ mem′ s′ r
+executed-as {mem} {s} {mem′} {s′} {core} {e} {e′} {r} p x = subst (λ (f : Effect). Executed mem s core f mem′ s′ r) p x
+
+-- an arm of a match on the outcome
+pub at-completed : (o : Outcome) → tagOf the-type o ≡ 0 → o ≡ Completed
+at-completed Completed h = refl
+at-completed (Raised x) h = absurd (omega arith)
+
+-- a sound effect that stores can be stored
+storable-store : (len : ℕ) (s : Store) → SoundStore len s → 0 < s .width → Width (s .width) × (s .address + s .width ≤ len)
+storable-store len s (none z) h = absurd (omega arith)
+storable-store len s (some w) h = (w .wide, w .inside)
+
+pub storable : (len : ℕ) (e : Effect) → Sound len e → 0 < e .store .width → Width (e .store .width) × (e .store .address + e .store .width ≤ len)
+storable len e s h = storable-store len (e .store) (s .sound-store) h
+
+pub fault-sound : (len : ℕ) (x : Inputs) (cause : Cause) (a : ℕ) → Sound len (faults x cause a)
+unfolding raises
+fault-sound len x cause a = record { place-lt = omega arith; sound-store = none refl }
+
+not-stored : (n : ℕ) (mem : List ℕ) (at v : ℕ) → n ≤ 0 → mem ≡ stored n mem at v
+unfolding stored
+not-stored zero mem at v h = refl
+not-stored (suc n) mem at v h = absurd (omega arith)
+
+-- s₁ is the states with the core's own state committed, r what its outcome counts
+module _ (mem s s₁ : List ℕ) (core r : ℕ) (e : Effect) (p : s₁ ≡ ownState s core e) (q : r ≡ raisedBy (e .outcome)) where
+  pub committed-store : length s₁ ≡ length s → 0 < e .store .width → (mem′ s′ : List ℕ) →
+      mem′ ≡ stored (e .store .width) mem (e .store .address) (e .store .value) → s′ ≡ clearLinks (coreCount s₁) s₁ (touched e * 4) →
+      Executed mem s core e mem′ s′ (record { raised = r; stored = true; word = touched e })
+  unfolding statesAfter memoryAfter
+  committed-store l w mem′ s′ m k =
+      record {
+        memory = m;
+        states = k ∙ ap₂ (λ n (t : List ℕ). clearLinks (n / 42) t (touched e * 4)) l p ∙ sym (simp (lt-ltb 0 (e .store .width) w));
+        done = simp (q, lt-ltb 0 (e .store .width) w);
+      }
+
+  pub committed : e .store .width ≤ 0 → Executed mem s core e mem s₁ (record { raised = r; stored = false; word = touched e })
+  unfolding statesAfter memoryAfter
+  committed w =
+      record {
+        memory = not-stored (e .store .width) mem (e .store .address) (e .store .value) w;
+        states = p ∙ sym (simp (le-ltb 0 (e .store .width) w));
+        done = simp (q, le-ltb 0 (e .store .width) w);
+      }
