@@ -1,0 +1,71 @@
+use mathlib.Core.Path.{sym, ap, _∙_}
+use denote.Ref.{now}
+use Rattle.engine.specs.Invariant.{verdictNumber}
+use Rattle.engine.proofs.Refusals.{fast-runnable, fast-accepted, fast-fits, fast-ran, fast-refused}
+use borrow.Author.Needs.{needs}
+use Rattle.engine.proofs.fast.fast_run.Statement.{statement}
+use Rattle.engine.proofs.fast.fast_run.Tie as tie
+
+check-fast-requires : tie.Need-check-fast-requires
+check-fast-requires c κs = search needs
+
+enum-told : tie.Need-enum-told
+enum-told c = search needs
+
+run-requires : tie.Need-run-requires
+run-requires c κs =
+    let a = c .before .before .before .before .before .before .before .before .before .before .before .before .before .args in
+    let check-fast = c .before .before .before .before .before .check-fast in
+    let enum-told = c .before .before .before .enum-told in (
+      fast-runnable (now (a .memory)) (now (a .states)) (now (a .schedule)) (now (a .cache)) (sym (check-fast .ensures) ∙ ap verdictNumber (enum-told .given .1)),
+      (fast-accepted (now (a .memory)) (now (a .states)) (now (a .schedule)) (now (a .cache)) (sym (check-fast .ensures) ∙ ap verdictNumber (enum-told .given .1)), fast-fits (now (a .memory)) (now (a .states)) (now (a .schedule)) (now (a .cache)) (sym (check-fast .ensures) ∙ ap verdictNumber (enum-told .given .1)) _),
+    )
+
+enum-known-verdict : tie.Need-enum-known-verdict
+enum-known-verdict c = search needs
+
+same-length : tie.Need-same-length
+same-length c = search needs
+
+same-length-2 : tie.Need-same-length-2
+same-length-2 c = search needs
+
+same-length-3 : tie.Need-same-length-3
+same-length-3 c = search needs
+
+returns : tie.Need-returns
+returns c =
+    let a = c .before .before .before .before .before .before .before .before .before .before .before .before .before .before .before .before .before .before .before .before .args in
+    let run = c .before .before .before .before .before .before .run in
+    fast-ran (now (a .memory)) (now (a .states)) (now (a .schedule)) (now (a .cache)) _ _ _ _ (sym (c .before .before .before .before .before .before .before .before .before .before .before .before .check-fast .ensures) ∙ ap verdictNumber (c .before .before .before .before .before .before .before .before .before .before .enum-told .given .1)) (run .ensures .0) (run .ensures .1) (run .kept .0) (run .kept .1 .0) (run .kept .1 .1 .1 .0)
+
+same-length-4 : tie.Need-same-length-4
+same-length-4 c = search needs
+
+same-length-5 : tie.Need-same-length-5
+same-length-5 c = search needs
+
+same-length-6 : tie.Need-same-length-6
+same-length-6 c = search needs
+
+returns-2 : tie.Need-returns-2
+returns-2 c =
+    let a = c .before .before .before .before .before .before .before .before .before .before .before .args in
+    fast-refused (now (a .memory)) (now (a .states)) (now (a .schedule)) (now (a .cache)) _ (ap verdictNumber (sym (c .before .verdict .given .1)) ∙ c .before .before .before .check-fast .ensures)
+
+pub fast-run-spec : {M : Type 1} → statement M
+fast-run-spec =
+    tie.close
+    (tie.spec
+    check-fast-requires
+    enum-told
+    run-requires
+    enum-known-verdict
+    same-length
+    same-length-2
+    same-length-3
+    returns
+    same-length-4
+    same-length-5
+    same-length-6
+    returns-2)

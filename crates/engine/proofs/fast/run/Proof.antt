@@ -1,0 +1,101 @@
+use mathlib.Core.Path.{_≡_, refl, _∙_}
+use native.Mathlib.Omega.{arith}
+use lib.ListN.{length}
+use Prim.Native.Nat.{_-_, _≤_}
+use Rattle.engine.specs.Plain.{boardOf}
+use Rattle.engine.specs.Answer.{noCounts, AtMost}
+use Rattle.engine.specs.Invariant.{fastOf}
+use Rattle.engine.proofs.Steps.{grown}
+use Rattle.engine.proofs.Schedule.{Going, going-first, going-on, going-end}
+use borrow.Author.Needs.{needs}
+use Rattle.engine.proofs.fast.run.Statement.{statement}
+use Rattle.engine.proofs.fast.run.Tie as tie
+
+abbrev Inv-loop : tie.InvT-loop
+Inv-loop memory₀ states₀ schedule cache₀ cores board counts₀ i₀ memory states cache counts i =
+    Going (boardOf states₀) schedule (fastOf memory₀ states₀ cache₀ noCounts) i (fastOf memory states cache counts) × AtMost i counts × (i ≤ length schedule) × (length memory ≡ length memory₀) × (length states ≡ length states₀) × (length cache ≡ length cache₀)
+
+abbrev μ-loop : tie.MeasureT-loop
+μ-loop memory₀ states₀ schedule cache₀ cores board counts₀ i₀ memory states cache counts i = length schedule - i
+
+cast-t11 : tie.Need-cast-t11 Inv-loop μ-loop
+cast-t11 c = search needs
+
+loop-holds : tie.Need-loop-holds Inv-loop μ-loop
+loop-holds c =
+    let p = c .before .before .before .before .pre in (
+      going-first _ _ _ (p .1 .1) (p .1 .0),
+      record { executed-le = omega arith; raised-le = omega arith; reused-le = omega arith },
+      omega arith,
+      refl,
+      refl,
+      refl,
+    )
+
+shared-slice-read-of-u8 : tie.Need-shared-slice-read-of-u8 Inv-loop μ-loop
+shared-slice-read-of-u8 c = search needs
+
+of-u8-requires : tie.Need-of-u8-requires Inv-loop μ-loop
+of-u8-requires c κs = search needs
+
+fast-step-requires : tie.Need-fast-step-requires Inv-loop μ-loop
+fast-step-requires c κs =
+    let l = c .before .before .before .before .before .before .loop in
+    let n = c .before .before .before .before .before .before .before .before .before .before .before .pre .0 .names-cores (l .i) (c .before .before .before .before .before .loop-test .taken) in
+    let w = l .inv .0 .fits .words in
+    (omega arith, (omega arith, (w, record { executed-le = omega arith; raised-le = omega arith; reused-le = omega arith })))
+
+add-i : tie.Need-add-i Inv-loop μ-loop
+add-i c = search needs
+
+loop-less : tie.Need-loop-less Inv-loop μ-loop
+loop-less c = search needs
+
+loop-again : tie.Need-loop-again Inv-loop μ-loop
+loop-again c =
+    let loop-test = c .before .before .before .before .before .before .before .before .before .before .before .before .loop-test in
+    let l = c .before .before .before .before .before .before .before .before .before .before .before .before .before .loop in
+    let f = c .before .before .before .before .before .before .fast-step in
+    let n = c .before .before .before .before .before .before .before .before .before .before .before .before .before .before .before .before .before .before .pre .0 .names-cores (l .i) (loop-test .taken) in (
+      going-on _ _ _ (l .i) (l .inv .0) (loop-test .taken) (c .before .before .before .before .before .before .before .before .before .before .of-u8 .ensures) (omega arith) (f .ensures .0),
+      grown (l .i) (l .inv .1) (f .ensures .1),
+      omega arith,
+      f .kept .1 .0 ∙ l .inv .3,
+      f .kept .1 .1 .0 ∙ l .inv .4,
+      f .kept .1 .1 .1 .0 ∙ l .inv .5,
+    )
+
+same-length : tie.Need-same-length Inv-loop μ-loop
+same-length c = c .before .loop .inv .3
+
+same-length-2 : tie.Need-same-length-2 Inv-loop μ-loop
+same-length-2 c = c .before .loop .inv .4
+
+same-length-3 : tie.Need-same-length-3 Inv-loop μ-loop
+same-length-3 c = c .before .loop .inv .5
+
+returns : tie.Need-returns Inv-loop μ-loop
+returns c =
+    let l = c .before .loop in (
+      going-end _ _ _ _ (l .i) (l .inv .0) (c .loop-test .left),
+      record { executed-le = omega arith; raised-le = omega arith; reused-le = omega arith },
+    )
+
+pub run-spec : {M : Type 1} → statement M
+run-spec =
+    tie.close
+    (tie.spec
+    Inv-loop
+    μ-loop
+    cast-t11
+    loop-holds
+    shared-slice-read-of-u8
+    of-u8-requires
+    fast-step-requires
+    add-i
+    loop-less
+    loop-again
+    same-length
+    same-length-2
+    same-length-3
+    returns)

@@ -1,0 +1,34 @@
+use mathlib.Core.Path.{sym, ap, _∙_}
+use denote.Ref.{now}
+use Rattle.engine.specs.Invariant.{verdictNumber}
+use Rattle.engine.proofs.Refusals.{then-cache, before-cache}
+use borrow.Author.Needs.{needs}
+use Rattle.engine.proofs.refusal.check_fast.Statement.{statement}
+use Rattle.engine.proofs.refusal.check_fast.Tie as tie
+
+check-requires : tie.Need-check-requires
+check-requires c κs = search needs
+
+enum-told : tie.Need-enum-told
+enum-told c = search needs
+
+check-cache-requires : tie.Need-check-cache-requires
+check-cache-requires c κs = search needs
+
+enum-known-verdict : tie.Need-enum-known-verdict
+enum-known-verdict c = search needs
+
+returns : tie.Need-returns
+returns c =
+    let a = c .before .before .before .before .before .before .before .before .args in
+    c .check-cache .ensures
+    ∙ then-cache (now (a .memory)) (now (a .states)) (now (a .schedule)) (now (a .cache)) (sym (c .before .before .before .check .ensures) ∙ ap verdictNumber (c .before .enum-told .given .1))
+
+returns-2 : tie.Need-returns-2
+returns-2 c =
+    let a = c .before .before .before .before .before .before .before .before .args in
+    let verdict = c .before .verdict in
+    before-cache (now (a .memory)) (now (a .states)) (now (a .schedule)) (now (a .cache)) (verdict .given .0 .0) (ap verdictNumber (sym (verdict .given .1)) ∙ c .before .before .before .check .ensures)
+
+pub check-fast-spec : {M : Type 1} → statement M
+check-fast-spec = tie.close (tie.spec check-requires enum-told check-cache-requires enum-known-verdict returns returns-2)

@@ -1,0 +1,70 @@
+-- A run's answer and what it leaves of all that is lent, for every input: document 01, "Turned back", and demand 3.
+use mathlib.Core.List.{List, []}
+use mathlib.Core.Path.{_≡_}
+use Prim.Native.Nat.{ℕ, _+_, _*_, _^_, _≤_}
+use lib.Dec.{eqb}
+use Rattle.bits.specs.Choice.{if_then_else_}
+use Rattle.engine.specs.Plain.{Plain, plainRun, start}
+use Rattle.engine.specs.History.{history, entriesFrom}
+use Rattle.engine.specs.Refusal.{plainRefusal, fastRefusal, refusalNumber}
+use Rattle.engine.specs.declared.answer.Counts.{Counts}
+use Rattle.engine.specs.declared.answer.Answer.{Answer}
+use Rattle.engine.specs.declared.answer.Answer.the-variants.{Ran, Refused}
+
+-- ---- the answer
+
+-- the refusal's number; 0 is none
+abbrev pub number : Answer → ℕ
+number (Ran n) = 0
+number (Refused cause) = refusalNumber cause
+
+-- the three counts; "counts are then 0"
+abbrev pub noCounts : Counts
+noCounts = record { executed = 0; raised = 0; reused = 0 }
+
+abbrev pub countsOf : Answer → Counts
+countsOf (Ran n) = n
+countsOf (Refused cause) = noCounts
+
+-- the answer as one number for a C host: bits 63-60 the refusal's number, 59-40 reused, 39-20 raised, 19-0 executed
+abbrev pub packedAnswer : Answer → ℕ
+packedAnswer a = number a * 2 ^ 60 + countsOf a .reused * 2 ^ 40 + countsOf a .raised * 2 ^ 20 + countsOf a .executed
+
+-- no count exceeds m. A schedule has at most 65,536 entries, so that each count has room in its 20 bits
+pub record AtMost (m : ℕ) (n : Counts) : Type 0 where
+  pub executed-le : n .executed ≤ m
+  pub raised-le : n .raised ≤ m
+  pub reused-le : n .reused ≤ m
+
+-- ---- what is left
+
+-- memory and states that are left, with the counts of executed and raised
+abbrev pub plainOf : List ℕ → List ℕ → Counts → Plain
+plainOf mem s n = record { memory = mem; states = s; executed = n .executed; raised = n .raised }
+
+-- a where nothing is refused; b where something is: "counts are then 0. .. Nothing lent is written."
+abbrev pub unlessRefused {ℓ} : {A : Type ℓ} → ℕ → A → A → A
+unlessRefused refusal a b = if eqb refusal 0 then a else b
+
+-- the plain run of mem, s and schedule answers r and leaves mem′ and s′
+pub record PlainAnswer (mem s schedule mem′ s′ : List ℕ) (r : Answer) : Type 0 where
+  pub refusal : number r ≡ plainRefusal mem s schedule
+  pub left : plainOf mem′ s′ (countsOf r) ≡ unlessRefused (plainRefusal mem s schedule) (plainRun mem s schedule) (start mem s)
+  pub none-reused : countsOf r .reused ≡ 0
+  pub small : AtMost 65536 (countsOf r)
+
+-- "After the fast run a held word's entry is the form of what memory now holds there, any other 0"
+unfoldable pub cacheLeft : List ℕ → List ℕ → List ℕ → List ℕ → List ℕ
+cacheLeft mem s schedule cache = entriesFrom 0 (plainRun mem s schedule .memory) (history mem s schedule cache .cached)
+
+-- The fast run of mem, s, schedule and cache answers r and leaves mem′, s′ and cache′. Demand 3: "both end with the same memory, the same
+-- sheets, the same count of instructions executed and the same count of exceptions raised"; "Afterwards each entry of the table and the reused
+-- count are exactly what document 01's history says, and the table is accepted again with that memory and those sheets." ("accepted again: the
+-- memory, sheets and table left meet none that concerns them": with an empty schedule, which meets neither 4 nor 5, none at all)
+pub record FastAnswer (mem s schedule cache mem′ s′ cache′ : List ℕ) (r : Answer) : Type 0 where
+  pub refusal : number r ≡ fastRefusal mem s schedule cache
+  pub left : plainOf mem′ s′ (countsOf r) ≡ unlessRefused (fastRefusal mem s schedule cache) (plainRun mem s schedule) (start mem s)
+  pub cache-left : cache′ ≡ unlessRefused (fastRefusal mem s schedule cache) (cacheLeft mem s schedule cache) cache
+  pub reused-count : countsOf r .reused ≡ unlessRefused (fastRefusal mem s schedule cache) (history mem s schedule cache .reused) 0
+  pub small : AtMost 65536 (countsOf r)
+  pub accepted-again : fastRefusal mem s schedule cache ≡ 0 → fastRefusal mem′ s′ [] cache′ ≡ 0

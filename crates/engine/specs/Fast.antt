@@ -1,0 +1,50 @@
+-- One schedule entry of the fast run: document 01, "Fast run". It holds for every decode cache (the paper's table), also where an entry is not
+-- its word's form; refusal 7 keeps that out of runs.
+use mathlib.Core.List.{List}
+use Prim.Native.Nat.{ℕ, _+_}
+use lib.Dec.{eqb}
+use lib.ListN.{getD, set}
+use Rattle.bits.specs.Choice.{if_then_else_}
+use Rattle.effect.specs.declared.types.Board.{Board}
+use Rattle.effect.specs.declared.types.Effect.{Effect}
+use Rattle.semantics.specs.Commit.{effectOf, fetchFault, stores, touched}
+use Rattle.engine.specs.Plain.{Plain, isRunning, isInside, fetched, formAt, plainAfter}
+
+-- what a fast run has come to: what a plain run has, the decode cache, and the count of fetches that found their entry filled
+pub record Fast : Type 0 where
+  pub plain : Plain
+  pub cache : List ℕ
+  pub reused : ℕ
+
+-- "0 is empty": 1 for a filled entry
+abbrev pub filled : ℕ → ℕ
+filled entry = if eqb entry 0 then 0 else 1
+
+-- "The step under the fast run executes a filled entry as it stands and not its word"
+abbrev pub cachedForm : List ℕ → List ℕ → ℕ → ℕ
+cachedForm mem cache k = if eqb (getD cache k 0) 0 then formAt mem k else getD cache k 0
+
+-- "a store then empties the entry of the word it touches, even if that is the running one or the value is the same"
+unfoldable pub emptied : Effect → List ℕ → List ℕ
+emptied e l = if stores e then set l (touched e) 0 else l
+
+-- "a fetch inside memory counts as reused if its entry is filled and otherwise fills it" (a filled one stays as it is)
+unfoldable pub fastFetch : Fast → ℕ → ℕ → Effect → Fast
+fastFetch x core k e = record {
+  plain = plainAfter (x .plain) core e;
+  cache = emptied e (set (x .cache) k (cachedForm (x .plain .memory) (x .cache) k));
+  reused = x .reused + filled (getD (x .cache) k 0);
+}
+
+-- "No entry changes otherwise."
+unfoldable pub fastFault : Fast → ℕ → Fast
+fastFault x core = record { plain = plainAfter (x .plain) core (fetchFault (x .plain .states) core); cache = x .cache; reused = x .reused }
+
+unfoldable pub fastStep : Board → Fast → ℕ → Fast
+fastStep board x core =
+    let mem = x .plain .memory in
+    let s = x .plain .states in
+    let k = fetched s core in
+    if isRunning s core then
+    (if isInside mem s core then fastFetch x core k (effectOf board mem s core (cachedForm mem (x .cache) k)) else fastFault x core) else
+    x

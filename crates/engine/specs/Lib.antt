@@ -1,0 +1,7 @@
+-- Both runs, in document 01's order: Plain, Fast, History, Refusal; Answer says what a run promises. Invariant serves the proofs.
+pub mod Plain
+pub mod Fast
+pub mod History
+pub mod Refusal
+pub mod Answer
+pub mod Invariant

@@ -1,0 +1,73 @@
+-- The plain run: document 01, "Plain run".
+use mathlib.Core.Bool.{Bool}
+use mathlib.Core.List.{List, [], _∷_}
+use Prim.Native.Nat.{ℕ, _+_, _/_}
+use lib.Dec.{eqb, leb}
+use lib.ListN.{length}
+use Rattle.bits.specs.Choice.{if_then_else_}
+use Rattle.isa.specs.InstructionSet.{decode}
+use Rattle.memory.specs.Memory.{memoryWord}
+use Rattle.effect.specs.State.{pcAt, modeAt, running}
+use Rattle.effect.specs.declared.types.Board.{Board}
+use Rattle.effect.specs.declared.types.Effect.{Effect}
+use Rattle.semantics.specs.Commit.{wordAt, coreCount, effectOf, fetchFault, statesAfter, memoryAfter}
+use Rattle.exec.specs.Report.{raisedBy}
+
+-- what a run has come to
+pub record Plain : Type 0 where
+  pub memory : List ℕ
+  pub states : List ℕ
+  pub executed : ℕ
+  pub raised : ℕ
+
+-- "If its core is not in mode 3"
+abbrev pub isRunning : List ℕ → ℕ → Bool
+isRunning s core = eqb (wordAt s core modeAt) running
+
+-- "PC outside memory": a word's four bytes are all inside, or it is outside
+abbrev pub isInside : List ℕ → List ℕ → ℕ → Bool
+isInside mem s core = leb (wordAt s core pcAt + 4) (length mem)
+
+-- the number of the memory word at PC, which is a multiple of 4
+abbrev pub fetched : List ℕ → ℕ → ℕ
+fetched s core = wordAt s core pcAt / 4
+
+-- the form of what memory holds at word k
+unfoldable pub formAt : List ℕ → ℕ → ℕ
+formAt mem k = decode (memoryWord mem k)
+
+-- "PC outside memory is a bus error, else the word that memory then holds there is fetched, decoded and executed."
+unfoldable pub plainEffect : Board → List ℕ → List ℕ → ℕ → Effect
+plainEffect board mem s core =
+    if isInside mem s core then effectOf board mem s core (formAt mem (fetched s core)) else fetchFault s core
+
+-- a running core's entry, with the effect e: it "adds 1 to executed"; "An exception adds 1 to raised."
+unfoldable pub plainAfter : Plain → ℕ → Effect → Plain
+plainAfter p core e = record {
+  memory = memoryAfter (p .memory) e;
+  states = statesAfter (p .states) core e;
+  executed = p .executed + 1;
+  raised = p .raised + raisedBy (e .outcome);
+}
+
+-- "If its core is not in mode 3, an entry changes nothing."
+unfoldable pub plainStep : Board → Plain → ℕ → Plain
+plainStep board p core =
+    if isRunning (p .states) core then plainAfter p core (plainEffect board (p .memory) (p .states) core) else p
+
+-- "The schedule's entries go in order, each on what the last left."
+unfoldable pub plainFrom : Board → List ℕ → Plain → Plain
+plainFrom board [] p = p
+plainFrom board (core ∷ schedule) p = plainFrom board schedule (plainStep board p core)
+
+-- what every instruction of a run is given: the core count
+abbrev pub boardOf : List ℕ → Board
+boardOf s = record { cores = coreCount s }
+
+-- "its counts start at 0"
+abbrev pub start : List ℕ → List ℕ → Plain
+start mem s = record { memory = mem; states = s; executed = 0; raised = 0 }
+
+-- "it takes memory, sheets and schedule"
+unfoldable pub plainRun : List ℕ → List ℕ → List ℕ → Plain
+plainRun mem s schedule = plainFrom (boardOf s) schedule (start mem s)
