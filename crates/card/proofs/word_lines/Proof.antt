@@ -1,0 +1,94 @@
+use Prim.Native.Nat.{_+_, _≤_}
+use mathlib.Core.Path.{_≡_, refl, ap, sym, _∙_}
+use native.Mathlib.Omega.{arith}
+use Rattle.card.specs.Answer.{job, scheduleAt}
+use Rattle.card.specs.Places.{stepIn, left}
+use Rattle.card.proofs.Laws.{tailOf, whole, broken, word-tail, tail-step, tail-stop, tail-done, left-over, none-left}
+use borrow.Author.Needs.{needs}
+use Rattle.card.proofs.word_lines.Statement.{statement}
+use Rattle.card.proofs.word_lines.Tie as tie
+
+abbrev Inv-loop : tie.InvT-loop
+Inv-loop card line job at₀ more₀ number₀ at more number = (tailOf more (left card at number) ≡ tailOf (job .words) (left card (job .image) line)) × (number ≤ at + 65536)
+
+abbrev μ-loop : tie.MeasureT-loop
+μ-loop card line job at₀ more₀ number₀ at more number = more
+
+loop-holds : tie.Need-loop-holds Inv-loop μ-loop
+loop-holds c = (refl, omega arith)
+
+word-at-requires : tie.Need-word-at-requires Inv-loop μ-loop
+word-at-requires c κs = search needs
+
+enum-known-next : tie.Need-enum-known-next Inv-loop μ-loop
+enum-known-next c = search needs
+
+sub-more : tie.Need-sub-more Inv-loop μ-loop
+sub-more c = search needs
+
+add-number : tie.Need-add-number Inv-loop μ-loop
+add-number c = let h = rw (c .before .next .given .1) at (c .before .before .before .word-at .ensures .1) in search needs
+
+loop-less : tie.Need-loop-less Inv-loop μ-loop
+loop-less c = search needs
+
+loop-again : tie.Need-loop-again Inv-loop μ-loop
+loop-again c =
+    let a = c .before .before .before .before .before .before .before .args in
+    let l = c .before .before .before .before .before .loop in
+    let h = rw (c .before .next .given .1) at (c .before .before .before .word-at .ensures .1) in (
+      sym (tail-step (l .more) (left (a .card .now) (l .at) (l .number)) (c .before .before .before .before .loop-test .taken) (sym (c .before .before .before .word-at .ensures .0) ∙ ap (stepIn (a .card .now)) (c .before .next .given .1)))
+          ∙ l .inv .0,
+      omega arith,
+    )
+
+enum-known-cause : tie.Need-enum-known-cause Inv-loop μ-loop
+enum-known-cause c = search needs
+
+returns : tie.Need-returns Inv-loop μ-loop
+returns c =
+    let a = c .before .before .before .before .before .before .before .args in
+    let p = a .job in
+    let l = c .before .before .before .before .before .loop in
+    let g = job (p .cores) (p .memory) (p .entry) (p .steps) (scheduleAt (a .card .now) p) in
+    let at = left (a .card .now) (l .at) (l .number) in
+    let e = tail-stop (l .more) at (c .before .before .before .before .loop-test .taken) (sym (c .before .before .before .word-at .ensures .0) ∙ ap (stepIn (a .card .now)) (c .before .cause .given .1)) in
+    (sym (word-tail g (p .words) (left (a .card .now) (p .image) (a .line)) (broken _ _) (sym (l .inv .0) ∙ e)), tt)
+
+returns-2 : tie.Need-returns-2 Inv-loop μ-loop
+returns-2 c =
+    let a = c .before .before .before .before .args in
+    let p = a .job in
+    let l = c .before .before .loop in
+    let g = job (p .cores) (p .memory) (p .entry) (p .steps) (scheduleAt (a .card .now) p) in
+    let at = left (a .card .now) (l .at) (l .number) in
+    let e = tail-done (l .more) at (c .before .loop-test .left) in
+    (sym (word-tail g (p .words) (left (a .card .now) (p .image) (a .line)) (whole at) (sym (l .inv .0) ∙ e) ∙ left-over (a .card .now) (l .at) (l .number) _ (omega arith)), tt)
+
+returns-3 : tie.Need-returns-3 Inv-loop μ-loop
+returns-3 c =
+    let a = c .before .before .before .before .args in
+    let p = a .job in
+    let l = c .before .before .loop in
+    let g = job (p .cores) (p .memory) (p .entry) (p .steps) (scheduleAt (a .card .now) p) in
+    let at = left (a .card .now) (l .at) (l .number) in
+    let e = tail-done (l .more) at (c .before .loop-test .left) in
+    (sym (word-tail g (p .words) (left (a .card .now) (p .image) (a .line)) (whole at) (sym (l .inv .0) ∙ e) ∙ none-left (a .card .now) (l .at) (l .number) _ (omega arith)), omega arith)
+
+pub word-lines-spec : {M : Type 1} → statement M
+word-lines-spec =
+    tie.close
+    (tie.spec
+    Inv-loop
+    μ-loop
+    loop-holds
+    word-at-requires
+    enum-known-next
+    sub-more
+    add-number
+    loop-less
+    loop-again
+    enum-known-cause
+    returns
+    returns-2
+    returns-3)
