@@ -1,0 +1,47 @@
+-- What the card reader answers and leaves, and what a good job starts from: document 01, "The run card", "Turned back" and "What is lent".
+use Prim.Native.Nat.{ℕ, zero, suc, _/_, _%_, _^_}
+use mathlib.Core.List.{List, [], _∷_, _++_}
+use lib.ListN.{length, getD, set, replicate}
+use lib.Dec.{eqb}
+use Rattle.bits.specs.Choice.{if_then_else_}
+use Rattle.effect.specs.State.{stateWords, pcAt, srAt, esrAt, modeAt, running}
+use Rattle.card.specs.Card.{Verdict, good, refused, imageFault, cardSays}
+use Rattle.job.specs.Laid.{laid}
+
+-- "a lent image of 16,384"
+abbrev pub imageLength : ℕ
+imageLength = 16384
+
+-- "The card reader tests 1, then the card's length, then its lines"
+unfoldable pub reading : List ℕ → List ℕ → Verdict
+reading card image = if eqb (length image) imageLength then cardSays card else refused imageFault 0
+
+-- a word, "high byte first"
+abbrev pub wordBytes : ℕ → List ℕ
+wordBytes w = w / 2 ^ 24 ∷ w / 2 ^ 16 % 2 ^ 8 ∷ w / 2 ^ 8 % 2 ^ 8 ∷ w % 2 ^ 8 ∷ []
+
+abbrev pub bytes : List ℕ → List ℕ
+bytes [] = []
+bytes (w ∷ ws) = wordBytes w ++ bytes ws
+
+-- "It zeroes and fills (w words from address 0) the first memory bytes of a lent image of 16,384, leaving the rest, only after the whole card is good."
+unfoldable pub imageAfter : Verdict → List ℕ → List ℕ
+imageAfter (good j) image = laid (laid image 0 (replicate (j .memory) 0)) 0 (bytes (j .words))
+imageAfter (refused f n) image = image
+
+-- "core digits repeated up to steps": the core of each of the first n steps
+unfoldable pub entries : List ℕ → ℕ → List ℕ
+entries schedule zero = []
+entries schedule (suc n) = entries schedule n ++ (getD schedule (n % length schedule) 0 ∷ [])
+
+abbrev pub resetSR : ℕ
+resetSR = 0x8001
+
+-- "Reset: PC the entry, SR and ESR 00008001, mode 3, the rest 0."
+abbrev pub resetState : ℕ → List ℕ
+resetState entry = set (set (set (set (replicate stateWords 0) pcAt entry) srAt resetSR) esrAt resetSR) modeAt running
+
+-- the states of n cores, one after the other
+unfoldable pub resetStates : ℕ → ℕ → List ℕ
+resetStates entry zero = []
+resetStates entry (suc n) = resetStates entry n ++ resetState entry
