@@ -1,0 +1,111 @@
+-- What the writers leave is the runner's output. Assumes nothing.
+use mathlib.Core.Path.{_≡_, refl, ap, ap₂, sym, subst, _∙_}
+use mathlib.Core.Bool.{false}
+use mathlib.Core.List.{List, _++_}
+use Prim.Native.Nat.{ℕ, _+_, _-_, _*_, _/_, _≤_, _<_}
+use native.Mathlib.Omega.{arith}
+use borrow.Author.Tests.{eq-eqb, le-ltb}
+use lib.Dec.{ltb}
+use lib.ListN.{length, take, drop, replicate, length-append, length-drop, length-replicate}
+use Rattle.effect.specs.State.{stateWords}
+use Rattle.engine.specs.Plain.{Plain, plainRun}
+use Rattle.engine.specs.History.{history}
+use Rattle.engine.specs.Refusal.{fastRefusal, refusalNumber}
+use Rattle.engine.specs.Answer.{number, countsOf, plainOf, FastAnswer}
+use Rattle.engine.specs.declared.answer.Counts as engine
+use Rattle.engine.specs.declared.answer.Refusal.{Refusal}
+use Rattle.engine.specs.declared.answer.Answer.{Answer}
+use Rattle.engine.specs.declared.answer.Answer.the-variants.{Ran, Refused}
+use Rattle.engine.proofs.Refusals.{cause-number, fast-runnable}
+use Rattle.report.specs.Answer.{answer, written, resultRoom, refusalRoom}
+use Rattle.report.specs.Result.{resultText, refusalText, cores}
+use Rattle.report.specs.declared.Counts.{Counts}
+use Rattle.report.specs.declared.Written.{Written}
+use Rattle.report.specs.declared.Written.the-variants.{Bytes, TooSmall}
+use Rattle.report.proofs.Room.{too-small}
+use Rattle.card.specs.Card.{Job, good, refused, cardSays}
+use Rattle.card.specs.Answer.{refusal, readingIn, jobAt, Bounds}
+use Rattle.card.specs.declared.Cause.{Cause}
+use Rattle.card.specs.declared.Job as code
+use Rattle.card.specs.declared.Reading.{Reading}
+use Rattle.card.specs.declared.Reading.the-variants.{Good, Bad}
+use Rattle.job.specs.Job.{imageLength, bytes, imageAfter}
+use Rattle.job.specs.Answer.{ReadJob}
+use Rattle.job.proofs.Laws.{right-image, image-laid, length-bytes}
+use Rattle.play.specs.Output.{memoryOf, runCounts, runText, jobText, verdictText, output}
+use Rattle.play.specs.Answer.{outputRoom, Among, Printed, Ready}
+use Rattle.play.proofs.Parts.{take-laid-twice}
+
+-- ---- the answer
+
+pub no-room : (text out : List ℕ) → length out < outputRoom → Printed text out out TooSmall
+no-room text out h = let e = too-small outputRoom text out h in record { says = e .0; left = e .1; among = tt }
+
+module _ (room : ℕ) (text out out′ : List ℕ) (r : Written) (h : outputRoom ≤ length out) (g : room ≤ outputRoom) where
+  -- a text that was written is among the bytes, since it did not make them more
+  pub printed : r ≡ answer room text out → out′ ≡ written room text out → length out′ ≡ length out → Printed text out out′ r
+  unfolding answer written
+  printed e w l =
+      let a : ltb (length out) room ≡ false = le-ltb (length out) room (omega arith) in
+      let b : ltb (length out) outputRoom ≡ false = le-ltb (length out) outputRoom h in
+      let e′ : r ≡ Bytes (length text) = rw a at e in
+      let w′ : out′ ≡ text ++ drop (length text) out = rw a at w in
+      let n : length out ≡ length text + (length out - length text) =
+      sym l ∙ ap length w′ ∙ length-append text (drop (length text) out) ∙ ap (λ (k : ℕ). length text + k) (length-drop (length text) out) in
+      record { says = rw b e′; left = rw b w′; among = subst (Among (length out)) (sym e′) (let k : length text ≤ length out = omega arith in k) }
+
+-- ---- a run that is not refused
+
+module _ {mem s schedule cache mem′ s′ cache′ : List ℕ} {r : Answer} (f : FastAnswer mem s schedule cache mem′ s′ cache′ r) (z : fastRefusal mem s schedule cache ≡ 0) where
+  pub never-refused : {A : Type 0} (cause : Refusal) → r ≡ Refused cause → A
+  never-refused cause e = absurd (cause-number cause (ap number (sym e) ∙ f .refusal ∙ z))
+
+  -- its counts and states are the plain run's
+  pub run-text : (n : engine.Counts) → r ≡ Ran n
+      → resultText (record { executed = n .executed; raised = n .raised; reused = n .reused }) s′ ≡ runText mem s schedule cache
+  unfolding runText
+  run-text n e =
+      let p : plainOf mem′ s′ n ≡ plainRun mem s schedule =
+      ap (λ (a : Answer). plainOf mem′ s′ (countsOf a)) (sym e) ∙ rw (eq-eqb _ _ z) at (f .left) in
+      let u : n .reused ≡ history mem s schedule cache .reused =
+      ap (λ (a : Answer). countsOf a .reused) (sym e) ∙ rw (eq-eqb _ _ z) at (f .reused-count) in
+      ap₂ (λ (x : Plain) (k : ℕ). resultText (record { executed = x .executed; raised = x .raised; reused = k }) (x .states)) p u
+
+  pub run-room : length s′ ≡ length s → resultRoom (cores s′) ≤ outputRoom
+  run-room l = let c = fast-runnable mem s schedule cache z .few-cores in let d : length s′ / stateWords ≤ 4 = rw l c in omega arith
+
+-- ---- a card that was read
+
+module _ {card image image′ : List ℕ} {r : Reading} (l : length image ≡ imageLength) (h : ReadJob card image image′ r) where
+  says : readingIn card r ≡ cardSays card
+  says = h .says ∙ right-image card image l
+
+  pub bad-output : (cause : Cause) (line : ℕ) → r ≡ Bad cause line → refusalText (refusal cause) line ≡ output card
+  unfolding output verdictText
+  bad-output cause line e = ap verdictText (ap (readingIn card) (sym e) ∙ says)
+
+  module _ (j : code.Job) (e : r ≡ Good j) where
+    good-says : cardSays card ≡ good (jobAt card j)
+    good-says = sym says ∙ ap (readingIn card) e
+
+    pub good-output : jobText (jobAt card j) ≡ output card
+    unfolding output verdictText
+    good-output = ap verdictText (sym good-says)
+
+    pub ready : length image′ ≡ imageLength → Ready card j image′
+    ready m =
+        let b : Bounds card j = rw e at (h .held) in
+        let ws : List ℕ = jobAt card j .words in
+        let zeros : List ℕ = replicate (j .memory) 0 in
+        let z : length zeros ≡ j .memory = length-replicate (j .memory) 0 in
+        let n : length (bytes ws) ≡ 4 * length ws = length-bytes ws in
+        let a : image′ ≡ imageAfter (cardSays card) image = h .written ∙ ap (λ v. imageAfter v image) (right-image card image l) in
+        record {
+          says = good-says;
+          bounds = b;
+          fits = omega (arith, b .memory-high);
+          laid-out = ap (take (j .memory)) (a ∙ image-laid image good-says) ∙ take-laid-twice image zeros (bytes ws) (j .memory) z (omega (arith, b .words-fit));
+        }
+
+pub printed-as : {text text′ out out′ : List ℕ} {r : Written} → text ≡ text′ → Printed text out out′ r → Printed text′ out out′ r
+printed-as {out = out} {out′ = out′} {r = r} e p = subst (λ (t : List ℕ). Printed t out out′ r) e p

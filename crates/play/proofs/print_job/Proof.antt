@@ -1,0 +1,95 @@
+use mathlib.Core.Path.{_≡_, refl, sym}
+use native.Mathlib.Omega.{arith}
+use lib.ListN.{length, replicate}
+use lib.Seq.{length-take-le}
+use Rattle.play.proofs.Parts.{length-zeros}
+use Rattle.play.proofs.Printing.{printed-as}
+use Rattle.play.proofs.Lent.{lent-accepted, lent-text}
+use borrow.Author.Needs.{needs}
+use Rattle.play.proofs.print_job.Statement.{statement}
+use Rattle.play.proofs.print_job.Tie as tie
+
+slice-aggregate-reset : tie.Need-slice-aggregate-reset
+slice-aggregate-reset c = refl
+
+reset-requires : tie.Need-reset-requires
+reset-requires c κs = let b = c .before .before .before .before .pre .0 .bounds in omega arith
+
+slice-aggregate-schedule : tie.Need-slice-aggregate-schedule
+slice-aggregate-schedule c = sym (length-zeros 16384)
+
+schedule-requires : tie.Need-schedule-requires
+schedule-requires c κs = let b = c .before .before .before .before .before .before .before .pre .0 .bounds in (omega arith, omega arith, omega arith)
+
+cast-memory : tie.Need-cast-memory
+cast-memory c = search needs
+
+cast-words : tie.Need-cast-words
+cast-words c = search needs
+
+mul-words : tie.Need-mul-words
+mul-words c = let b = c .before .before .before .before .before .before .before .before .before .before .before .pre .0 .bounds in omega arith
+
+cast-steps : tie.Need-cast-steps
+cast-steps c = search needs
+
+slice-relend-prefix-print-run : tie.Need-slice-relend-prefix-print-run
+slice-relend-prefix-print-run c = c .before .before .before .before .before .before .before .before .before .before .before .before .pre .0 .fits
+
+slice-aggregate-print-run : tie.Need-slice-aggregate-print-run
+slice-aggregate-print-run c = let a = c .before .before .before .before .before .before .before .before .before .before .before .before .before .args in sym (length-take-le (a .job .memory) (a .image .now) (c .before .before .before .before .before .before .before .before .before .before .before .before .before .pre .0 .fits))
+
+array-borrow-prefix-states : tie.Need-array-borrow-prefix-states
+array-borrow-prefix-states c = let b = c .before .before .before .before .before .before .before .before .before .before .before .before .before .pre .0 .bounds in let k = c .before .before .before .before .before .before .before .before .reset .kept .0 in omega arith
+
+slice-aggregate-print-run-2 : tie.Need-slice-aggregate-print-run-2
+slice-aggregate-print-run-2 c = let b = c .before .before .before .before .before .before .before .before .before .before .before .before .before .before .pre .0 .bounds in let k = c .before .before .before .before .before .before .before .before .before .reset .kept .0 in sym (length-take-le _ (c .before .before .before .before .before .before .before .before .before .reset .last .0) (omega arith))
+
+array-share-prefix-schedule : tie.Need-array-share-prefix-schedule
+array-share-prefix-schedule c = let b = c .before .before .before .before .before .before .before .before .before .before .before .before .before .before .pre .0 .bounds in let k = c .before .before .before .before .before .before .schedule2 .kept .1 .1 .0 in omega arith
+
+slice-aggregate-print-run-3 : tie.Need-slice-aggregate-print-run-3
+slice-aggregate-print-run-3 c = let b = c .before .before .before .before .before .before .before .before .before .before .before .before .before .before .before .pre .0 .bounds in let k = c .before .before .before .before .before .before .before .schedule2 .kept .1 .1 .0 in sym (length-take-le _ (c .before .before .before .before .before .before .before .schedule2 .last .1 .1 .0) (omega arith))
+
+array-borrow-prefix-cache : tie.Need-array-borrow-prefix-cache
+array-borrow-prefix-cache c = let b = c .before .before .before .before .before .before .before .before .before .before .before .before .before .before .before .pre .0 .bounds in omega arith
+
+slice-aggregate-print-run-4 : tie.Need-slice-aggregate-print-run-4
+slice-aggregate-print-run-4 c = let b = c .before .before .before .before .before .before .before .before .before .before .before .before .before .before .before .before .pre .0 .bounds in sym (length-take-le _ (replicate 4096 0) (omega arith))
+
+print-run-requires : tie.Need-print-run-requires
+print-run-requires c κs = let a = c .before .before .before .before .before .before .before .before .before .before .before .before .before .before .before .before .before .args in (lent-accepted (a .card .now) (a .job) (a .image .now) _ (c .before .before .before .before .before .before .before .before .before .before .before .before .reset .last .0) _ (c .before .before .before .before .before .before .before .before .before .schedule2 .last .1 .1 .0) (c .before .before .before .before .before .before .before .before .before .before .before .before .before .before .before .before .before .pre .0) (c .before .before .before .before .before .before .before .before .before .before .before .before .reset .ensures) (c .before .before .before .before .before .before .before .before .before .schedule2 .ensures), c .before .before .before .before .before .before .before .before .before .before .before .before .before .before .before .before .before .pre .1)
+
+same-length : tie.Need-same-length
+same-length c = search needs
+
+same-length-2 : tie.Need-same-length-2
+same-length-2 c = search needs
+
+returns : tie.Need-returns
+returns c = let a = c .before .before .before .before .before .before .before .before .before .before .before .before .before .before .before .before .before .before .before .before .before .before .before .before .args in printed-as (lent-text (a .card .now) (a .job) (a .image .now) _ (c .before .before .before .before .before .before .before .before .before .before .before .before .before .before .before .before .before .before .before .reset .last .0) _ (c .before .before .before .before .before .before .before .before .before .before .before .before .before .before .before .before .schedule2 .last .1 .1 .0) (c .before .before .before .before .before .before .before .before .before .before .before .before .before .before .before .before .before .before .before .before .before .before .before .before .pre .0) (c .before .before .before .before .before .before .before .before .before .before .before .before .before .before .before .before .before .before .before .reset .ensures) (c .before .before .before .before .before .before .before .before .before .before .before .before .before .before .before .before .schedule2 .ensures)) (c .before .before .before .before .before .before .print-run .ensures)
+
+pub print-job-spec : {M : Type 1} → statement M
+print-job-spec =
+    tie.close
+    (tie.spec
+    slice-aggregate-reset
+    reset-requires
+    slice-aggregate-schedule
+    schedule-requires
+    cast-memory
+    cast-words
+    mul-words
+    cast-steps
+    slice-relend-prefix-print-run
+    slice-aggregate-print-run
+    array-borrow-prefix-states
+    slice-aggregate-print-run-2
+    array-share-prefix-schedule
+    slice-aggregate-print-run-3
+    array-borrow-prefix-cache
+    slice-aggregate-print-run-4
+    print-run-requires
+    same-length
+    same-length-2
+    returns)

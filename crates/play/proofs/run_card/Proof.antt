@@ -1,0 +1,60 @@
+use mathlib.Core.Path.{_≡_, sym, _∙_}
+use native.Mathlib.Omega.{arith}
+use Rattle.play.proofs.Parts.{length-zeros}
+use Rattle.play.proofs.Printing.{no-room, printed-as, bad-output, good-output, ready}
+use borrow.Author.Needs.{needs}
+use Rattle.play.proofs.run_card.Statement.{statement}
+use Rattle.play.proofs.run_card.Tie as tie
+
+returns : tie.Need-returns
+returns c = no-room _ _ (omega arith)
+
+slice-aggregate-read-job : tie.Need-slice-aggregate-read-job
+slice-aggregate-read-job c = sym (length-zeros 16384)
+
+read-job-requires : tie.Need-read-job-requires
+read-job-requires c κs = search needs
+
+enum-known-job : tie.Need-enum-known-job
+enum-known-job c = search needs
+
+slice-aggregate-print-job : tie.Need-slice-aggregate-print-job
+slice-aggregate-print-job c = sym (c .before .before .before .before .before .read-job .kept .1 .0 ∙ length-zeros 16384)
+
+print-job-requires : tie.Need-print-job-requires
+print-job-requires c κs = (ready (length-zeros 16384) (c .before .before .before .before .before .before .read-job .ensures) (c .before .before .before .job .given .0 .0) (c .before .before .before .job .given .1) (c .before .before .before .before .before .before .read-job .kept .1 .0 ∙ length-zeros 16384), omega arith)
+
+enum-known-cause : tie.Need-enum-known-cause
+enum-known-cause c = search needs
+
+print-refusal-requires : tie.Need-print-refusal-requires
+print-refusal-requires c κs = omega arith
+
+same-length : tie.Need-same-length
+same-length c = search needs
+
+returns-2 : tie.Need-returns-2
+returns-2 c = printed-as (good-output (length-zeros 16384) (c .before .before .before .before .before .before .before .before .before .before .read-job .ensures) (c .before .before .before .before .before .before .before .job .given .0 .0) (c .before .before .before .before .before .before .before .job .given .1)) (c .before .before .before .print-job .ensures)
+
+same-length-2 : tie.Need-same-length-2
+same-length-2 c = search needs
+
+returns-3 : tie.Need-returns-3
+returns-3 c = printed-as (bad-output (length-zeros 16384) (c .before .before .before .before .before .before .before .before .read-job .ensures) (c .before .before .before .before .before .cause .given .0 .0) (c .before .before .before .before .before .cause .given .0 .1 .0) (c .before .before .before .before .before .cause .given .1)) (c .before .before .print-refusal .ensures)
+
+pub run-card-spec : {M : Type 1} → statement M
+run-card-spec =
+    tie.close
+    (tie.spec
+    returns
+    slice-aggregate-read-job
+    read-job-requires
+    enum-known-job
+    slice-aggregate-print-job
+    print-job-requires
+    enum-known-cause
+    print-refusal-requires
+    same-length
+    returns-2
+    same-length-2
+    returns-3)

@@ -1,0 +1,50 @@
+-- The output of the runner: document 01, "The run card", "The runner reads a card on standard input, makes a fast run from an empty table and
+-- prints counts, a line for each core, .."
+use mathlib.Core.List.{List}
+use Prim.Native.Nat.{ℕ, _/_}
+use lib.ListN.{replicate}
+use Rattle.card.specs.Card.{Job, Verdict, good, refused, cardSays}
+use Rattle.job.specs.Laid.{laid}
+use Rattle.job.specs.Job.{bytes, entries, resetStates}
+use Rattle.engine.specs.Plain.{plainRun}
+use Rattle.engine.specs.History.{history}
+use Rattle.report.specs.declared.Counts.{Counts}
+use Rattle.report.specs.Result.{resultText, refusalText}
+
+-- "It zeroes and fills (w words from address 0) the first memory bytes"
+abbrev pub memoryOf : Job → List ℕ
+memoryOf j = laid (replicate (j .memory) 0) 0 (bytes (j .words))
+
+-- all cores start at the entry
+abbrev pub statesOf : Job → List ℕ
+statesOf j = resetStates (j .entry) (j .cores)
+
+abbrev pub scheduleOf : Job → List ℕ
+scheduleOf j = entries (j .schedule) (j .steps)
+
+-- "an empty table", the decode cache: "one 64-bit entry for each memory word. 0 is empty."
+abbrev pub emptyCache : Job → List ℕ
+emptyCache j = replicate (j .memory / 4) 0
+
+-- the fast run's counts: by demand 3 the plain run's, and the history's reused
+abbrev pub runCounts : List ℕ → List ℕ → List ℕ → List ℕ → Counts
+runCounts mem s schedule cache = record {
+  executed = plainRun mem s schedule .executed;
+  raised = plainRun mem s schedule .raised;
+  reused = history mem s schedule cache .reused;
+}
+
+unfoldable pub runText : List ℕ → List ℕ → List ℕ → List ℕ → List ℕ
+runText mem s schedule cache = resultText (runCounts mem s schedule cache) (plainRun mem s schedule .states)
+
+unfoldable pub jobText : Job → List ℕ
+jobText j = runText (memoryOf j) (statesOf j) (scheduleOf j) (emptyCache j)
+
+-- "a bad card prints `refused=9 line=3`"
+unfoldable pub verdictText : Verdict → List ℕ
+verdictText (good j) = jobText j
+verdictText (refused number line) = refusalText number line
+
+-- what the runner prints for a card's bytes
+unfoldable pub output : List ℕ → List ℕ
+output card = verdictText (cardSays card)

@@ -1,0 +1,111 @@
+// From a run card's bytes to the bytes that the runner prints.
+ghost use mathlib.Core.Path.{_≡_};
+ghost use Prim.Native.Nat.{_≤_};
+ghost use lib.ListN.{length};
+ghost use Rattle.card.specs.Answer.{refusal, jobAt};
+ghost use Rattle.report.specs.Result.{refusalText};
+ghost use Rattle.engine.specs.Refusal.{fastRefusal};
+ghost use Rattle.play.specs.Output.{runText, jobText, output};
+ghost use Rattle.play.specs.Answer.{outputRoom, Printed, Ready};
+use card::Cause;
+use card::Job;
+use card::Reading;
+use engine::answer::Answer;
+use report::Counts;
+use report::Written;
+
+// The bytes that a card's output may take: the longest is that of four cores.
+pub const ROOM: usize = 2056;
+
+// The largest job: its memory in bytes and in words, its cores' states and its steps.
+const IMAGE: usize = 16384;
+
+const MEMORY_WORDS: usize = 4096;
+
+const STATES: usize = 168;
+
+const STEPS: usize = 16384;
+
+const STATE_WORDS: usize = 42;
+
+// Document 01's number of each cause.
+fn refusal_number(cause: Cause) -> u32
+    ensures { λ r. ⌜ r ≡ refusal cause ⌝ }
+{
+    match cause {
+        Cause::Image => 1,
+        Cause::Form => 9,
+        Cause::Limit => 10,
+    }
+}
+
+fn print_refusal(out: &mut [u8], cause: Cause, line: u32) -> Written
+    requires { ⌜ outputRoom ≤ length (now out) ⌝ }
+    ensures { λ r. ⌜ Printed (refusalText (refusal cause) line) (now (out .entry)) (now (out .exit)) r ⌝ }
+{
+    let number = refusal_number(cause);
+    report::write_refusal(out, number, line)
+}
+
+// A fast run of what it does not refuse, and its result.
+fn print_run(
+    memory: &mut [u8],
+    states: &mut [u32],
+    schedule: &[u8],
+    cache: &mut [u64],
+    out: &mut [u8],
+) -> Written
+    requires { ⌜ fastRefusal (now memory) (now states) (now schedule) (now cache) ≡ 0 ⌝ }
+    requires { ⌜ outputRoom ≤ length (now out) ⌝ }
+    ensures { λ r. ⌜ Printed (runText (now (memory .entry)) (now (states .entry)) (now (schedule .entry)) (now (cache .entry))) (now (out .entry)) (now (out .exit)) r ⌝ }
+{
+    match engine::fast::fast_run(memory, states, schedule, cache) {
+        Answer::Ran(counts) => {
+            let printed = Counts {
+                executed: counts.executed,
+                raised: counts.raised,
+                reused: counts.reused,
+            };
+            report::write_result(out, printed, states)
+        }
+        Answer::Refused(_) => Written::TooSmall,
+    }
+}
+
+// A good card's job, with its memory laid out in the image: the run starts from an empty decode cache.
+fn print_job(card: &[u8], job: Job, image: &mut [u8], out: &mut [u8]) -> Written
+    requires { ⌜ Ready (now card) job (now image) ⌝ }
+    requires { ⌜ outputRoom ≤ length (now out) ⌝ }
+    ensures { λ r. ⌜ Printed (jobText (jobAt (now (card .entry)) job)) (now (out .entry)) (now (out .exit)) r ⌝ }
+{
+    let mut states = [0u32; STATES];
+    let mut schedule = [0u8; STEPS];
+    let mut cache = [0u64; MEMORY_WORDS];
+    job::reset(&mut states, job.cores, job.entry);
+    job::schedule(card, job, &mut schedule);
+    let memory = job.memory as usize;
+    let words = job.cores as usize * STATE_WORDS;
+    let steps = job.steps as usize;
+    let entries = memory / 4;
+    print_run(
+        &mut image[..memory],
+        &mut states[..words],
+        &schedule[..steps],
+        &mut cache[..entries],
+        out,
+    )
+}
+
+// What the runner prints for a card; or that the bytes lent are too few for the longest output, and nothing is written.
+pub fn run_card(card: &[u8], out: &mut [u8]) -> Written
+    ensures { λ r. ⌜ Printed (output (now (card .entry))) (now (out .entry)) (now (out .exit)) r ⌝ }
+{
+    if out.len() < ROOM {
+        return Written::TooSmall;
+    }
+    let mut image = [0u8; IMAGE];
+    match job::read_job(card, &mut image) {
+        Reading::Good(job) => print_job(card, job, &mut image, out),
+        Reading::Bad(cause, line) => print_refusal(out, cause, line),
+    }
+}
