@@ -1,0 +1,340 @@
+//! Random cases for the runs: accepted ones, and ones broken in known places.
+
+use crate::isa::{self, Insn, Kind};
+use crate::programs;
+use crate::rng::Rng;
+use crate::runs::{MEMORY_MOST, SCHEDULE_MOST};
+use crate::state::{allowed_sr, place, SHEET_WORDS, SR_BITS};
+
+/// Everything that a fast run is lent; a plain run leaves the table aside.
+#[derive(Clone, Debug, PartialEq, Eq, Default)]
+pub struct Case {
+    pub memory: Vec<u8>,
+    pub sheets: Vec<u32>,
+    pub schedule: Vec<u8>,
+    pub table: Vec<u64>,
+}
+
+impl Case {
+    pub fn word(&self, index: usize) -> u32 {
+        let bytes = &self.memory[4 * index..4 * index + 4];
+        u32::from_be_bytes([bytes[0], bytes[1], bytes[2], bytes[3]])
+    }
+
+    pub fn set_word(&mut self, index: usize, word: u32) {
+        self.memory[4 * index..4 * index + 4].copy_from_slice(&word.to_be_bytes());
+    }
+
+    pub fn cores(&self) -> usize {
+        self.sheets.len() / SHEET_WORDS
+    }
+}
+
+/// A case that no refusal is met by, with at most so many entries.
+pub fn accepted_case(rng: &mut Rng, entries_most: usize) -> Case {
+    let bytes = match rng.below(24) {
+        0 => 4 * rng.between(1_024, 4_096),
+        1 => 4_100,
+        _ => 4_096,
+    };
+    let mut case = Case { memory: vec![0; bytes], ..Case::default() };
+    fill_memory(rng, &mut case);
+    let cores = rng.between(1, 4);
+    case.sheets = accepted_sheets(rng, cores, bytes as u32);
+    for core in 0..cores {
+        plant_self_store(rng, &mut case, core);
+    }
+    case.schedule = schedule(rng, cores, entries_most);
+    case.table = accepted_table(rng, &case);
+    case
+}
+
+/// An accepted case with a schedule of the greatest length.
+pub fn long_case(rng: &mut Rng) -> Case {
+    let mut case = accepted_case(rng, 0);
+    let cores = case.cores();
+    case.schedule = (0..SCHEDULE_MOST).map(|_| rng.below(cores) as u8).collect();
+    case
+}
+
+/// An accepted case with the largest memory, the small one's words repeated in
+/// it, and a core that runs into its end.
+pub fn large_case(rng: &mut Rng) -> Case {
+    let mut case = accepted_case(rng, 2_000);
+    let words = case.memory.len() / 4;
+    case.memory.resize(MEMORY_MOST, 0);
+    case.table.resize(MEMORY_MOST / 4, 0);
+    for index in words..MEMORY_MOST / 4 {
+        let word = case.word(index % words);
+        case.set_word(index, word);
+    }
+    case.sheets[place::PC] = MEMORY_MOST as u32 - 64;
+    case
+}
+
+/// Programs everywhere; handlers at the vectors and counting loops, if the
+/// dice say so.
+fn fill_memory(rng: &mut Rng, case: &mut Case) {
+    let words = case.memory.len() / 4;
+    for index in 0..words {
+        let word = programs::program_word(rng);
+        case.set_word(index, word);
+    }
+    if !rng.one_in(4) {
+        for vector in [0x200, 0x600, 0x700, 0xb00, 0xc00, 0xe00] {
+            let skip = rng.pick(&[4, 4, 8, 12]);
+            let skip = if vector == 0xc00 { 0 } else { skip };
+            set_words(case, vector / 4, &programs::skipping_handler(skip));
+        }
+    }
+    for _ in 0..rng.pick(&[0, 4, 24]) {
+        let index = rng.below(words - 8);
+        set_words(case, index, &programs::counting_loop());
+    }
+}
+
+fn set_words(case: &mut Case, index: usize, words: &[u32]) {
+    for (offset, &word) in words.iter().enumerate() {
+        case.set_word(index + offset, word);
+    }
+}
+
+/// Sheets that keep every rule. Cores often start at one place and share the
+/// word that r1 points to.
+pub fn accepted_sheets(rng: &mut Rng, cores: usize, bytes: u32) -> Vec<u32> {
+    let shared_start = 4 * rng.below(bytes as usize / 4) as u32;
+    let shared_word = near(rng, shared_start, bytes);
+    let mut sheets = Vec::new();
+    for _ in 0..cores {
+        let mut sheet = accepted_sheet(rng, bytes);
+        if rng.one_in(2) {
+            sheet[place::PC] = shared_start;
+        }
+        if !rng.one_in(4) {
+            sheet[1] = shared_word;
+        }
+        // r2 points near the code that runs, so that stores hit it.
+        sheet[2] = near(rng, sheet[place::PC], bytes);
+        sheets.extend_from_slice(&sheet);
+    }
+    sheets
+}
+
+/// Puts a store into its own word near where a core starts, now and then.
+fn plant_self_store(rng: &mut Rng, case: &mut Case, core: usize) {
+    let sheet = &case.sheets[core * SHEET_WORDS..];
+    let own = sheet[place::PC].wrapping_add(4 * rng.below(6) as u32);
+    let imm = own.wrapping_sub(sheet[2]);
+    if (own as usize) < case.memory.len() && rng.one_in(3) {
+        let (kind, value) = (rng.pick(&[Kind::Sw, Kind::Sb, Kind::Sh]), rng.between(5, 8));
+        let word = programs::assemble(rng, Insn { kind, d: 0, a: 2, b: value as u8, imm });
+        case.set_word(own as usize / 4, word);
+    }
+}
+
+/// An address of a word within some words of another, as a rule in memory.
+fn near(rng: &mut Rng, address: u32, bytes: u32) -> u32 {
+    let away = (rng.between(0, 32) as u32).wrapping_sub(8).wrapping_mul(4);
+    let address = address.wrapping_add(away);
+    if address < bytes || rng.one_in(16) {
+        address
+    } else {
+        (address % bytes) & !3
+    }
+}
+
+fn accepted_sheet(rng: &mut Rng, bytes: u32) -> [u32; SHEET_WORDS] {
+    let mut sheet = [0; SHEET_WORDS];
+    for (number, register) in sheet.iter_mut().enumerate().take(32).skip(1) {
+        *register = match number {
+            1..=4 | 9 => address(rng, bytes),
+            5..=8 => programs::program_word(rng),
+            10 | 11 => rng.pick(&[0x7fff_ffff, 0x8000_0000, 0xc000_0000, 0x4000_0000]),
+            _ => rng.edge_word(),
+        };
+    }
+    sheet[place::PC] = address(rng, bytes);
+    if rng.one_in(5) {
+        sheet[place::DELAY] = 1;
+        sheet[place::TARGET] = address(rng, bytes);
+    }
+    sheet[place::SR] = status(rng);
+    sheet[place::EPCR] = address(rng, bytes);
+    sheet[place::EEAR] = rng.edge_word();
+    sheet[place::ESR] = status(rng);
+    if rng.one_in(3) {
+        sheet[place::LINK] = 1;
+        sheet[place::LINK_ADDRESS] = if rng.one_in(2) { sheet[1] } else { address(rng, bytes) };
+    }
+    sheet[place::MODE] = if rng.one_in(12) { 0 } else { 3 };
+    sheet
+}
+
+/// A multiple of 4, mostly in memory, sometimes at its end or outside.
+fn address(rng: &mut Rng, bytes: u32) -> u32 {
+    match rng.below(32) {
+        0 => rng.pick(&[bytes, bytes + 4, 0xffff_fffc, 0xffff_fff8, 0x8000_0000]),
+        1 => rng.pick(&[0, bytes - 4, bytes - 8]),
+        2 => rng.next_u32() & !3,
+        _ => 4 * rng.below(bytes as usize / 4) as u32,
+    }
+}
+
+fn status(rng: &mut Rng) -> u32 {
+    if rng.one_in(3) {
+        0x8001
+    } else {
+        allowed_sr(rng.next_u32())
+    }
+}
+
+/// A schedule: bursts, turns about, or thrown dice.
+pub fn schedule(rng: &mut Rng, cores: usize, entries_most: usize) -> Vec<u8> {
+    let entries = rng.between(0, entries_most);
+    let mut schedule = Vec::with_capacity(entries);
+    let manner = rng.below(3);
+    let mut core = rng.below(cores);
+    for _ in 0..entries {
+        core = match manner {
+            0 => (core + 1) % cores,
+            1 if rng.one_in(10) => rng.below(cores),
+            1 => core,
+            _ => rng.below(cores),
+        };
+        schedule.push(core as u8);
+    }
+    schedule
+}
+
+/// A table in which a share of the words' entries is filled.
+fn accepted_table(rng: &mut Rng, case: &Case) -> Vec<u64> {
+    let sparse = rng.pick(&[0, 0, 1, 2, 16]);
+    let words = case.memory.len() / 4;
+    let mut fill = |index: usize| match sparse {
+        0 => 0,
+        share if rng.one_in(share) => isa::decode(case.word(index)),
+        _ => 0,
+    };
+    (0..words).map(&mut fill).collect()
+}
+
+/// A case broken in one or two places and the refusal it must meet: the least
+/// number, as "Runs test 1 to 7 in this order".
+pub fn broken_case(rng: &mut Rng) -> (Case, u8) {
+    let mut case = accepted_case(rng, 40);
+    let first = break_by(rng, &mut case, 0);
+    if rng.one_in(2) {
+        return (case, first);
+    }
+    let second = break_by(rng, &mut case, first);
+    (case, first.min(second))
+}
+
+/// Breaks a case so that it meets some refusal other than `not`.
+fn break_by(rng: &mut Rng, case: &mut Case, not: u8) -> u8 {
+    let mut refusal = rng.between(1, 7) as u8;
+    // A table or sheets of another length have no places to break again.
+    if refusal == not || (not <= 2 && not != 0) || not == 6 {
+        refusal = if not == 5 { 3 } else { 5 };
+    }
+    match refusal {
+        1 => break_memory(rng, case),
+        2 => break_sheet_count(rng, case),
+        3 => break_some_sheet(rng, case),
+        4 => {
+            let entries = if rng.one_in(2) { 65_537 } else { rng.between(65_537, 70_000) };
+            case.schedule.resize(entries, 0);
+        }
+        5 => break_schedule(rng, case),
+        6 => break_table_length(rng, case),
+        _ => break_table(rng, case),
+    }
+    refusal
+}
+
+fn break_memory(rng: &mut Rng, case: &mut Case) {
+    let bytes = case.memory.len();
+    let wrong = match rng.below(24) {
+        0 => 0,
+        1 => 4,
+        2 => 1_048_580,
+        3 => 1_048_577,
+        4..=8 => 4_092,
+        9..=12 => 4_095,
+        _ => bytes + rng.between(1, 3),
+    };
+    case.memory.resize(wrong, 0);
+}
+
+fn break_sheet_count(rng: &mut Rng, case: &mut Case) {
+    let words = case.sheets.len();
+    let wrong = match rng.below(6) {
+        0 => 0,
+        1 => 5 * SHEET_WORDS,
+        2 => words - 1,
+        3 => 168 + rng.between(1, 200),
+        _ => words + rng.between(1, 41),
+    };
+    case.sheets.resize(wrong, 0);
+}
+
+fn break_schedule(rng: &mut Rng, case: &mut Case) {
+    let cores = case.cores().min(4);
+    let wrong = if rng.one_in(2) { cores } else { rng.between(cores, 255) };
+    let index = rng.between(0, case.schedule.len());
+    case.schedule.insert(index, wrong as u8);
+}
+
+fn break_table_length(rng: &mut Rng, case: &mut Case) {
+    let entries = case.table.len();
+    let wrong = rng.pick(&[0, entries - 1, entries + 1, 2 * entries, 4 * entries]);
+    case.table.resize(wrong, 0);
+}
+
+/// Fills one entry with something that is not its word's form.
+fn break_table(rng: &mut Rng, case: &mut Case) {
+    let words = case.table.len().min(case.memory.len() / 4);
+    let some = rng.below(words);
+    let index = rng.pick(&[0, words - 1, some]);
+    let form = isa::decode(case.word(index));
+    let wrong = match rng.below(4) {
+        0 => 1 << 56,
+        1 => programs::any_entry(rng),
+        2 => isa::decode(programs::any_word(rng)),
+        _ => form ^ 1 << rng.below(64),
+    };
+    // Neither the form nor empty.
+    case.table[index] = if wrong == form || wrong == 0 { form ^ 1 } else { wrong };
+}
+
+/// Breaks one rule on one sheet.
+fn break_some_sheet(rng: &mut Rng, case: &mut Case) {
+    let core = rng.below(case.cores());
+    let sheet = &mut case.sheets[core * SHEET_WORDS..(core + 1) * SHEET_WORDS];
+    let odd = rng.between(1, 3) as u32;
+    let not_small = rng.pick(&[2, 3, 4, 0x100, 0xffff_ffff]);
+    match rng.below(12) {
+        0 => sheet[0] = rng.next_u32() | 1,
+        1 => sheet[place::PC] |= odd,
+        2 => sheet[place::EPCR] |= odd,
+        3 => (sheet[place::DELAY], sheet[place::TARGET]) = (1, 0x100 | odd),
+        4 => (sheet[place::DELAY], sheet[place::TARGET]) = (0, 4 * odd),
+        5 => sheet[place::DELAY] = not_small,
+        6 => sheet[rng.pick(&[place::SR, place::ESR])] ^= status_bit_not_allowed(rng),
+        7 => sheet[rng.pick(&[place::SR, place::ESR])] &= !0x8000,
+        8 => sheet[place::LINK] = not_small,
+        9 => (sheet[place::LINK], sheet[place::LINK_ADDRESS]) = (0, 4 * odd),
+        10 => (sheet[place::LINK], sheet[place::LINK_ADDRESS]) = (1, 0x100 | odd),
+        _ => sheet[place::MODE] = rng.pick(&[1, 2, 4, 7, 0x103, 0xffff_ffff]),
+    }
+}
+
+/// A bit that is 0 on a good sheet, or bit 15, which is 1.
+fn status_bit_not_allowed(rng: &mut Rng) -> u32 {
+    loop {
+        let bit = 1 << rng.below(32);
+        if bit & SR_BITS == 0 {
+            return bit;
+        }
+    }
+}

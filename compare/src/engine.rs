@@ -1,0 +1,82 @@
+//! The engine under test, through the C functions of its archive.
+
+use crate::check::{Codec, Engine};
+
+// As include/or1k.h declares them: a slice is a pointer and a count of items.
+extern "C" {
+    fn or1k_decode(word: u32) -> u64;
+    fn or1k_encode(entry: u64) -> u64;
+    fn or1k_plain_run(
+        memory: *mut u8,
+        memory_length: usize,
+        states: *mut u32,
+        states_length: usize,
+        schedule: *const u8,
+        schedule_length: usize,
+    ) -> u64;
+    fn or1k_fast_run(
+        memory: *mut u8,
+        memory_length: usize,
+        states: *mut u32,
+        states_length: usize,
+        schedule: *const u8,
+        schedule_length: usize,
+        cache: *mut u64,
+        cache_length: usize,
+    ) -> u64;
+}
+
+pub struct Archive;
+
+impl Codec for Archive {
+    fn name(&self) -> &str {
+        "archive"
+    }
+    fn decode(&self, word: u32) -> u64 {
+        // SAFETY: a number goes in and one comes out; every number is accepted.
+        unsafe { or1k_decode(word) }
+    }
+    fn encode(&self, entry: u64) -> u64 {
+        // SAFETY: as above.
+        unsafe { or1k_encode(entry) }
+    }
+}
+
+impl Engine for Archive {
+    fn plain_run(&self, memory: &mut [u8], sheets: &mut [u32], schedule: &[u8]) -> u64 {
+        // SAFETY: each pointer is a slice's and goes with that slice's length,
+        // and no two mutable slices overlap. The functions require nothing of
+        // lengths or items: what they do not run they refuse.
+        unsafe {
+            or1k_plain_run(
+                memory.as_mut_ptr(),
+                memory.len(),
+                sheets.as_mut_ptr(),
+                sheets.len(),
+                schedule.as_ptr(),
+                schedule.len(),
+            )
+        }
+    }
+    fn fast_run(
+        &self,
+        memory: &mut [u8],
+        sheets: &mut [u32],
+        schedule: &[u8],
+        table: &mut [u64],
+    ) -> u64 {
+        // SAFETY: as above.
+        unsafe {
+            or1k_fast_run(
+                memory.as_mut_ptr(),
+                memory.len(),
+                sheets.as_mut_ptr(),
+                sheets.len(),
+                schedule.as_ptr(),
+                schedule.len(),
+                table.as_mut_ptr(),
+                table.len(),
+            )
+        }
+    }
+}

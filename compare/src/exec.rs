@@ -1,0 +1,466 @@
+//! One instruction on one core ("One instruction").
+
+use crate::isa::{Insn, Kind};
+use crate::state::{self, Core, CY, DSX, F, IEE, OV, OVE, SM, TEE};
+
+/// Why an instruction did not complete.
+#[derive(Clone, Copy, Debug, PartialEq, Eq, PartialOrd, Ord, Hash)]
+pub enum Cause {
+    Bus,
+    Alignment,
+    Illegal,
+    Range,
+    Syscall,
+    Trap,
+}
+
+/// An exception and, where its cause says so, the value EEAR takes.
+#[derive(Clone, Copy, Debug, PartialEq, Eq)]
+pub struct Exception {
+    pub cause: Cause,
+    pub failing: Option<u32>,
+}
+
+/// What one entry of a running core did, as far as the runs must know.
+#[derive(Clone, Copy, Debug, PartialEq, Eq, Default)]
+pub struct Step {
+    pub raised: Option<Cause>,
+    /// The address of the word that a store wrote.
+    pub stored: Option<u32>,
+}
+
+/// Where a completed instruction goes on.
+enum Flow {
+    Next,
+    /// After the slot to this address.
+    Jump(u32),
+    Return,
+    Halt,
+    /// As Next, and the word at this address was written.
+    Stored(u32),
+}
+
+type Outcome = Result<Flow, Exception>;
+
+impl Cause {
+    /// "Vectors: bus 200, alignment 600, illegal 700, ..."
+    pub fn vector(self) -> u32 {
+        match self {
+            Cause::Bus => 0x200,
+            Cause::Alignment => 0x600,
+            Cause::Illegal => 0x700,
+            Cause::Range => 0xb00,
+            Cause::Syscall => 0xc00,
+            Cause::Trap => 0xe00,
+        }
+    }
+
+    /// An exception that keeps EEAR.
+    fn plain(self) -> Exception {
+        Exception { cause: self, failing: None }
+    }
+
+    fn at(self, address: u32) -> Exception {
+        Exception { cause: self, failing: Some(address) }
+    }
+}
+
+/// The word at an address that is a multiple of 4, or nothing outside memory.
+#[inline]
+pub fn fetch(memory: &[u8], address: u32) -> Option<u32> {
+    let bytes = memory.get(address as usize..)?.first_chunk()?;
+    Some(u32::from_be_bytes(*bytes))
+}
+
+/// "A fetch outside memory is a bus error."
+pub fn fetch_fault(core: &mut Core) -> Step {
+    let exception = Cause::Bus.at(core.pc);
+    take(core, exception);
+    Step { raised: Some(Cause::Bus), stored: None }
+}
+
+/// Runs one decoded instruction of core `who`, which is in mode 3. It is put
+/// into each run's loop, which spares a third of a step's work.
+#[inline(always)]
+pub fn execute(cores: &mut [Core], who: usize, memory: &mut [u8], insn: Insn) -> Step {
+    let count = cores.len() as u32;
+    let core = &mut cores[who];
+    match operate(core, (who as u32, count), memory, insn) {
+        Err(exception) => {
+            take(core, exception);
+            Step { raised: Some(exception.cause), stored: None }
+        }
+        Ok(Flow::Stored(word)) => {
+            advance(core);
+            clear_links(cores, word);
+            Step { raised: None, stored: Some(word) }
+        }
+        Ok(flow) => {
+            go_on(core, flow);
+            Step::default()
+        }
+    }
+}
+
+/// Sorts an instruction to the function for its family.
+#[inline(always)]
+fn operate(core: &mut Core, identity: (u32, u32), memory: &mut [u8], insn: Insn) -> Outcome {
+    use Kind::*;
+    match insn.kind {
+        Illegal => Err(illegal(core)),
+        J | Jal | Bnf | Bf | Jr | Jalr | Rfe | Sys => control(core, insn),
+        Trap => Err(Cause::Trap.plain()),
+        Nop if insn.imm == 1 => Ok(Flow::Halt),
+        Nop | Msync | Psync | Csync => Ok(Flow::Next),
+        Lwa | Lwz | Lws | Lbz | Lbs | Lhz | Lhs => load(core, memory, insn),
+        Swa | Sw | Sb | Sh => store(core, memory, insn),
+        Cinvalidate | Cwriteback | Cflush => touch(core, memory, insn),
+        Add | Addc | Sub | Addi | Addic => sum(core, insn),
+        Mfspr => Ok(read_special(core, identity, insn)),
+        Mtspr => Ok(write_special(core, insn)),
+        Sfeqi | Sfnei | Sfgtui | Sfgeui | Sfltui | Sfleui | Sfgtsi | Sfgesi | Sfltsi | Sflesi => {
+            Ok(set_flag(core, insn, insn.imm))
+        }
+        Sfeq | Sfne | Sfgtu | Sfgeu | Sfltu | Sfleu | Sfgts | Sfges | Sflts | Sfles => {
+            Ok(set_flag(core, insn, core.get(insn.b)))
+        }
+        Movhi | Andi | Ori | Xori | Slli | Srli | Srai | Rori => Ok(with_immediate(core, insn)),
+        And | Or | Xor | Sll | Srl | Sra | Ror | Cmov => Ok(with_registers(core, insn)),
+        Exths | Extbs | Exthz | Extbz | Extws | Extwz | Ff1 | Fl1 => Ok(on_one(core, insn)),
+    }
+}
+
+/// EEAR takes the illegal instruction's own address.
+fn illegal(core: &Core) -> Exception {
+    Cause::Illegal.at(core.pc)
+}
+
+/// Jumps, branches, l.rfe and l.sys.
+fn control(core: &mut Core, insn: Insn) -> Outcome {
+    // "in a slot is illegal, before any other check on it"
+    if core.delay {
+        return Err(illegal(core));
+    }
+    let near = core.pc.wrapping_add(insn.imm);
+    let after_slot = core.pc.wrapping_add(8);
+    match insn.kind {
+        Kind::Rfe => Ok(Flow::Return),
+        Kind::Sys => Err(Cause::Syscall.plain()),
+        Kind::Bf => Ok(Flow::Jump(if core.has(F) { near } else { after_slot })),
+        Kind::Bnf => Ok(Flow::Jump(if core.has(F) { after_slot } else { near })),
+        Kind::Jal => {
+            core.set(9, after_slot);
+            Ok(Flow::Jump(near))
+        }
+        Kind::Jr | Kind::Jalr => jump_to_register(core, insn),
+        _ => Ok(Flow::Jump(near)),
+    }
+}
+
+/// "raise alignment at the jump and write no link"
+fn jump_to_register(core: &mut Core, insn: Insn) -> Outcome {
+    let goal = core.get(insn.b);
+    if !goal.is_multiple_of(4) {
+        return Err(Cause::Alignment.at(goal));
+    }
+    if insn.kind == Kind::Jalr {
+        core.set(9, core.pc.wrapping_add(8));
+    }
+    Ok(Flow::Jump(goal))
+}
+
+/// The address of an access of `width` bytes: "alignment first (words 4,
+/// halves 2), then bus error if any byte is outside".
+#[inline]
+fn reach(core: &Core, memory: &[u8], insn: Insn, width: usize) -> Result<usize, Exception> {
+    let address = core.get(insn.a).wrapping_add(insn.imm);
+    let place = address as usize;
+    if !place.is_multiple_of(width) {
+        return Err(Cause::Alignment.at(address));
+    }
+    if place + width > memory.len() {
+        return Err(Cause::Bus.at(address));
+    }
+    Ok(place)
+}
+
+#[inline]
+fn load(core: &mut Core, memory: &[u8], insn: Insn) -> Outcome {
+    let value = match insn.kind {
+        Kind::Lbz => u32::from(memory[reach(core, memory, insn, 1)?]),
+        Kind::Lbs => memory[reach(core, memory, insn, 1)?] as i8 as u32,
+        Kind::Lhz => u32::from(half_at(memory, reach(core, memory, insn, 2)?)),
+        Kind::Lhs => half_at(memory, reach(core, memory, insn, 2)?) as i16 as u32,
+        _ => {
+            let at = reach(core, memory, insn, 4)?;
+            if insn.kind == Kind::Lwa {
+                core.link = true;
+                core.link_address = at as u32;
+            }
+            word_at(memory, at)
+        }
+    };
+    core.set(insn.d, value);
+    Ok(Flow::Next)
+}
+
+/// "high byte first"; the place is one that `reach` gave.
+fn half_at(memory: &[u8], at: usize) -> u16 {
+    u16::from_be_bytes([memory[at], memory[at + 1]])
+}
+
+fn word_at(memory: &[u8], at: usize) -> u32 {
+    u32::from_be_bytes([memory[at], memory[at + 1], memory[at + 2], memory[at + 3]])
+}
+
+#[inline]
+fn store(core: &mut Core, memory: &mut [u8], insn: Insn) -> Outcome {
+    let value = core.get(insn.b);
+    let at = match insn.kind {
+        Kind::Sb => {
+            let at = reach(core, memory, insn, 1)?;
+            memory[at] = value as u8;
+            at
+        }
+        Kind::Sh => {
+            let at = reach(core, memory, insn, 2)?;
+            memory[at..at + 2].copy_from_slice(&(value as u16).to_be_bytes());
+            at
+        }
+        _ => {
+            let at = reach(core, memory, insn, 4)?;
+            if insn.kind == Kind::Swa && !use_link(core, at as u32) {
+                return Ok(Flow::Next);
+            }
+            memory[at..at + 4].copy_from_slice(&value.to_be_bytes());
+            at
+        }
+    };
+    Ok(Flow::Stored(at as u32 & !3))
+}
+
+/// What l.swa does besides storing: F tells whether the link is to its word,
+/// and "it clears its own link either way".
+fn use_link(core: &mut Core, address: u32) -> bool {
+    let linked = core.link && core.link_address == address;
+    core.put(F, linked);
+    core.clear_link();
+    linked
+}
+
+/// "p.* tests its one byte and does no more."
+fn touch(core: &Core, memory: &[u8], insn: Insn) -> Outcome {
+    reach(core, memory, insn, 1)?;
+    Ok(Flow::Next)
+}
+
+/// "Any store clears every core's link to the word it touches."
+#[inline]
+fn clear_links(cores: &mut [Core], word: u32) {
+    for core in cores {
+        if core.link && core.link_address == word {
+            core.clear_link();
+        }
+    }
+}
+
+/// Sums and differences, with CY and OV worked out beside the low 32 bits.
+#[inline]
+fn sum(core: &mut Core, insn: Insn) -> Outcome {
+    let immediate = matches!(insn.kind, Kind::Addi | Kind::Addic);
+    let x = core.get(insn.a);
+    let y = if immediate { insn.imm } else { core.get(insn.b) };
+    let with_carry = matches!(insn.kind, Kind::Addc | Kind::Addic);
+    let carry = u32::from(with_carry && core.has(CY));
+    let (low, exact, carried) = if insn.kind == Kind::Sub {
+        (x.wrapping_sub(y), signed(x) - signed(y), x < y)
+    } else {
+        let wide = u64::from(x) + u64::from(y) + u64::from(carry);
+        let exact = signed(x) + signed(y) + i64::from(carry);
+        (wide as u32, exact, wide >> 32 != 0)
+    };
+    let overflow = exact != signed(low);
+    core.set(insn.d, low);
+    core.put(CY, carried);
+    core.put(OV, overflow);
+    // "addi and addic set the flags and never raise"
+    if overflow && core.has(OVE) && !immediate {
+        return Err(Cause::Range.plain());
+    }
+    Ok(Flow::Next)
+}
+
+/// A word read as a signed number, wide enough for exact sums.
+fn signed(word: u32) -> i64 {
+    i64::from(word as i32)
+}
+
+/// Whether a set-flag kind, of either form, holds of two words.
+#[inline]
+fn holds(kind: Kind, x: u32, y: u32) -> bool {
+    use Kind::*;
+    match kind {
+        Sfeq | Sfeqi => x == y,
+        Sfne | Sfnei => x != y,
+        Sfgtu | Sfgtui => x > y,
+        Sfgeu | Sfgeui => x >= y,
+        Sfltu | Sfltui => x < y,
+        Sfleu | Sfleui => x <= y,
+        Sfgts | Sfgtsi => x as i32 > y as i32,
+        Sfges | Sfgesi => x as i32 >= y as i32,
+        Sflts | Sfltsi => (x as i32) < y as i32,
+        _ => x as i32 <= y as i32,
+    }
+}
+
+#[inline]
+fn set_flag(core: &mut Core, insn: Insn, y: u32) -> Flow {
+    let flag = holds(insn.kind, core.get(insn.a), y);
+    core.put(F, flag);
+    Flow::Next
+}
+
+#[inline]
+fn with_immediate(core: &mut Core, insn: Insn) -> Flow {
+    let x = core.get(insn.a);
+    let imm = insn.imm;
+    let value = match insn.kind {
+        Kind::Movhi => imm << 16,
+        Kind::Andi => x & imm,
+        Kind::Ori => x | imm,
+        Kind::Xori => x ^ imm,
+        shift => shifted(shift, x, imm),
+    };
+    core.set(insn.d, value);
+    Flow::Next
+}
+
+#[inline]
+fn with_registers(core: &mut Core, insn: Insn) -> Flow {
+    let x = core.get(insn.a);
+    let y = core.get(insn.b);
+    let value = match insn.kind {
+        Kind::And => x & y,
+        Kind::Or => x | y,
+        Kind::Xor => x ^ y,
+        Kind::Cmov => {
+            if core.has(F) {
+                x
+            } else {
+                y
+            }
+        }
+        shift => shifted(shift, x, y),
+    };
+    core.set(insn.d, value);
+    Flow::Next
+}
+
+/// "Shifts use the low five bits".
+#[inline]
+fn shifted(kind: Kind, x: u32, amount: u32) -> u32 {
+    let amount = amount & 31;
+    match kind {
+        Kind::Sll | Kind::Slli => x << amount,
+        Kind::Srl | Kind::Srli => x >> amount,
+        Kind::Sra | Kind::Srai => ((x as i32) >> amount) as u32,
+        _ => x.rotate_right(amount),
+    }
+}
+
+/// Extensions and bit places, which read rA alone.
+#[inline]
+fn on_one(core: &mut Core, insn: Insn) -> Flow {
+    let x = core.get(insn.a);
+    let value = match insn.kind {
+        Kind::Exths => x as i16 as u32,
+        Kind::Extbs => x as i8 as u32,
+        Kind::Exthz => x & 0xffff,
+        Kind::Extbz => x & 0xff,
+        // "bit 0 being place 1; 0 gives 0"
+        Kind::Ff1 if x == 0 => 0,
+        Kind::Ff1 => x.trailing_zeros() + 1,
+        Kind::Fl1 => 32 - x.leading_zeros(),
+        // Words are all there is to extend: l.extws and l.extwz copy.
+        _ => x,
+    };
+    core.set(insn.d, value);
+    Flow::Next
+}
+
+/// "Others read 0".
+fn read_special(core: &mut Core, identity: (u32, u32), insn: Insn) -> Flow {
+    let value = match core.get(insn.a) | insn.imm {
+        17 => core.sr,
+        32 => core.epcr,
+        48 => core.eear,
+        64 => core.esr,
+        128 => identity.0,
+        129 => identity.1,
+        _ => 0,
+    };
+    core.set(insn.d, value);
+    Flow::Next
+}
+
+/// "Bits that SR or ESR may not have, and EPCR's low two, are dropped".
+fn write_special(core: &mut Core, insn: Insn) -> Flow {
+    let value = core.get(insn.b);
+    match core.get(insn.a) | insn.imm {
+        17 => core.sr = state::allowed_sr(value),
+        32 => core.epcr = value & !3,
+        48 => core.eear = value,
+        64 => core.esr = state::allowed_sr(value),
+        _ => {}
+    }
+    Flow::Next
+}
+
+/// "goes to PC + 4, or in a slot to the target, clearing delay and target"
+#[inline]
+fn advance(core: &mut Core) {
+    core.pc = if core.delay { core.target } else { core.pc.wrapping_add(4) };
+    core.delay = false;
+    core.target = 0;
+}
+
+#[inline]
+fn go_on(core: &mut Core, flow: Flow) {
+    match flow {
+        Flow::Next | Flow::Stored(_) => advance(core),
+        Flow::Jump(goal) => {
+            core.pc = core.pc.wrapping_add(4);
+            core.delay = true;
+            core.target = goal;
+        }
+        Flow::Return => {
+            core.pc = core.epcr;
+            core.sr = core.esr;
+        }
+        // "advances, then halts its core"
+        Flow::Halt => {
+            advance(core);
+            core.running = false;
+        }
+    }
+}
+
+/// Takes an exception: the paragraph "Vectors".
+fn take(core: &mut Core, exception: Exception) {
+    let slot = core.delay;
+    core.epcr = match exception.cause {
+        Cause::Syscall => core.pc.wrapping_add(4),
+        _ if slot => core.pc.wrapping_sub(4),
+        _ => core.pc,
+    };
+    if let Some(address) = exception.failing {
+        core.eear = address;
+    }
+    core.esr = core.sr;
+    core.sr = core.sr & !(TEE | IEE | OVE) | SM;
+    core.put(DSX, slot);
+    core.delay = false;
+    core.target = 0;
+    core.clear_link();
+    core.pc = exception.cause.vector();
+}

@@ -1,0 +1,21 @@
+//! An OpenRISC 1000 engine written from document 01 alone.
+//!
+//! Its worth is that it shares no line with the engine it is held against.
+//! It is a plain interpreter: a table of masks and values, a struct for a
+//! core, and the runs as the paper words them.
+
+pub mod battery;
+pub mod card;
+pub mod cards;
+pub mod cases;
+pub mod check;
+pub mod dump;
+#[cfg(feature = "engine")]
+pub mod engine;
+pub mod exec;
+pub mod guard;
+pub mod isa;
+pub mod programs;
+pub mod rng;
+pub mod runs;
+pub mod state;

@@ -1,0 +1,252 @@
+//! Random words and programs.
+//!
+//! Programs keep to some habits, so that they run for long before they end in
+//! nothing but exceptions: r1-r4 are addresses, r5-r8 hold words that are
+//! instructions, r10-r15 hold numbers at edges.
+
+use crate::isa::{self, Insn, Kind, KINDS, TABLE};
+use crate::rng::Rng;
+
+/// A word of a kind, with random fields and random reserved bits.
+pub fn word_of_kind(rng: &mut Rng, kind: Kind) -> u32 {
+    let row = &TABLE[kind as usize - 1];
+    let mut free = rng.next_u32();
+    if rng.one_in(4) {
+        // Immediates at the edges of sixteen bits.
+        free = free & 0xffff_0000 | rng.edge_word() & 0xffff;
+    }
+    row.value | free & !row.mask
+}
+
+/// A word mostly of a kind taken from all 79 alike, else just random.
+pub fn any_word(rng: &mut Rng) -> u32 {
+    if rng.one_in(12) {
+        return rng.next_u32();
+    }
+    let kind = TABLE[rng.below(KINDS)].kind;
+    word_of_kind(rng, kind)
+}
+
+/// Words through every top half and, under every opcode, through all of bits
+/// 10-0; the other bits are random.
+pub fn systematic_words(rng: &mut Rng) -> Vec<u32> {
+    let mut words = Vec::new();
+    for half in 0..=0xffff {
+        words.push(half << 16);
+        words.push(half << 16 | rng.next_u32() & 0xffff);
+    }
+    for opcode in 0..64 {
+        for low in 0..=0x07ff {
+            words.push(opcode << 26 | rng.next_u32() & 0x03ff_f800 | low);
+        }
+    }
+    words
+}
+
+/// An entry mostly near one that some word decodes to.
+pub fn any_entry(rng: &mut Rng) -> u64 {
+    let entry = isa::decode(any_word(rng));
+    match rng.below(6) {
+        0 | 1 => entry,
+        2 => entry ^ 1 << rng.below(64),
+        3 => entry ^ 1 << rng.below(64) ^ 1 << rng.below(64),
+        4 => entry & 0x00ff_ffff_ffff_ffff | (rng.below(256) as u64) << 56,
+        _ => rng.next_u64() >> rng.below(64),
+    }
+}
+
+/// The word of a form, now and then with random reserved bits. A form that no
+/// word has gives the encoder's illegal word.
+pub fn assemble(rng: &mut Rng, insn: Insn) -> u32 {
+    let word = isa::encode(insn.entry());
+    if word == isa::NO_WORD {
+        return isa::ILLEGAL_WORD;
+    }
+    let noise = if rng.one_in(4) { rng.next_u32() & isa::reserved_bits(insn.kind) } else { 0 };
+    word as u32 | noise
+}
+
+/// A register that holds an address, as a rule.
+fn pointer(rng: &mut Rng) -> u8 {
+    if rng.one_in(24) {
+        rng.below(32) as u8
+    } else {
+        rng.between(1, 4) as u8
+    }
+}
+
+fn source(rng: &mut Rng) -> u8 {
+    rng.below(16) as u8
+}
+
+/// A register to write: seldom one that holds an address.
+fn target(rng: &mut Rng) -> u8 {
+    match rng.below(16) {
+        0 => rng.between(1, 4) as u8,
+        1 => 0,
+        2 => rng.between(9, 31) as u8,
+        3..=7 => rng.between(5, 8) as u8,
+        _ => rng.between(10, 15) as u8,
+    }
+}
+
+/// An offset for an access of some width, seldom a bad one.
+fn offset(rng: &mut Rng, width: usize) -> u32 {
+    let near = (rng.between(0, 24) as u32).wrapping_sub(10);
+    match rng.below(24) {
+        0 => near,
+        1 => rng.next_u32() as u16 as i16 as u32,
+        _ => near.wrapping_mul(width as u32),
+    }
+}
+
+fn pick_kind(rng: &mut Rng, first: Kind, last: Kind) -> Kind {
+    TABLE[rng.between(first as usize, last as usize) - 1].kind
+}
+
+fn insn(kind: Kind, d: u8, a: u8, b: u8, imm: u32) -> Insn {
+    Insn { kind, d, a, b, imm }
+}
+
+fn arithmetic(rng: &mut Rng) -> Insn {
+    let d = target(rng);
+    let (mut a, mut b) = (source(rng), source(rng));
+    let kind = match rng.below(8) {
+        0..=2 => pick_kind(rng, Kind::Addi, Kind::Xori),
+        3 => pick_kind(rng, Kind::Slli, Kind::Rori),
+        4 => Kind::Movhi,
+        5 => {
+            // Sums of numbers at edges, for the sake of the range exception.
+            (a, b) = (rng.between(10, 15) as u8, rng.between(10, 15) as u8);
+            pick_kind(rng, Kind::Add, Kind::Sub)
+        }
+        _ => pick_kind(rng, Kind::Add, Kind::Fl1),
+    };
+    trim(insn(kind, d, a, b, rng.edge_word()))
+}
+
+fn comparison(rng: &mut Rng) -> Insn {
+    let kind = if rng.one_in(2) {
+        pick_kind(rng, Kind::Sfeqi, Kind::Sflesi)
+    } else {
+        pick_kind(rng, Kind::Sfeq, Kind::Sfles)
+    };
+    trim(insn(kind, 0, source(rng), source(rng), rng.edge_word()))
+}
+
+/// Clears the fields that a kind does not use and fits its immediate.
+fn trim(insn: Insn) -> Insn {
+    TABLE[insn.kind as usize - 1].layout.fit(insn)
+}
+
+fn control(rng: &mut Rng) -> Insn {
+    let near = (rng.between(0, 20) as u32).wrapping_sub(9).wrapping_mul(4);
+    match rng.below(12) {
+        0 => insn(Kind::Jr, 0, 0, pointer(rng), 0),
+        1 => insn(Kind::Jr, 0, 0, 9, 0),
+        2 => insn(Kind::Jalr, 0, 0, pointer(rng), 0),
+        3 => insn(Kind::Jal, 0, 0, 0, near),
+        4 => insn(Kind::J, 0, 0, 0, near),
+        5..=8 => insn(Kind::Bf, 0, 0, 0, near),
+        _ => insn(Kind::Bnf, 0, 0, 0, near),
+    }
+}
+
+fn load(rng: &mut Rng) -> Insn {
+    let kind = pick_kind(rng, Kind::Lwz, Kind::Lhs);
+    let width = match kind {
+        Kind::Lbz | Kind::Lbs => 1,
+        Kind::Lhz | Kind::Lhs => 2,
+        _ => 4,
+    };
+    insn(kind, target(rng), pointer(rng), 0, offset(rng, width))
+}
+
+fn store(rng: &mut Rng) -> Insn {
+    let (kind, width) = rng.pick(&[(Kind::Sw, 4), (Kind::Sw, 4), (Kind::Sb, 1), (Kind::Sh, 2)]);
+    let value = if rng.one_in(3) { source(rng) } else { rng.between(5, 8) as u8 };
+    insn(kind, 0, pointer(rng), value, offset(rng, width))
+}
+
+/// l.lwa and l.swa, mostly on the word r1 points to.
+fn atomic(rng: &mut Rng) -> Insn {
+    let at = if rng.one_in(8) { pointer(rng) } else { 1 };
+    let imm = if rng.one_in(4) { offset(rng, 4) } else { 0 };
+    if rng.one_in(2) {
+        insn(Kind::Lwa, target(rng), at, 0, imm)
+    } else {
+        insn(Kind::Swa, 0, at, source(rng), imm)
+    }
+}
+
+fn special(rng: &mut Rng) -> Insn {
+    let number = match rng.below(12) {
+        0 => rng.next_u32() & 0xffff,
+        1 => rng.below(200) as u32,
+        _ => rng.pick(&[17, 32, 48, 64, 128, 129]),
+    };
+    let base = if rng.one_in(10) { source(rng) } else { 0 };
+    if rng.one_in(2) {
+        insn(Kind::Mfspr, target(rng), base, 0, number)
+    } else {
+        insn(Kind::Mtspr, 0, base, source(rng), number)
+    }
+}
+
+fn quiet(rng: &mut Rng) -> Insn {
+    match rng.below(8) {
+        0 => insn(pick_kind(rng, Kind::Msync, Kind::Csync), 0, 0, 0, 0),
+        1 | 2 => {
+            let kind = pick_kind(rng, Kind::Cinvalidate, Kind::Cflush);
+            insn(kind, 0, pointer(rng), 0, offset(rng, 1))
+        }
+        3 => insn(Kind::Nop, 0, 0, 0, 1),
+        _ => insn(Kind::Nop, 0, 0, 0, rng.pick(&[0, 0, 2, 0x8001, 0xffff])),
+    }
+}
+
+fn system(rng: &mut Rng) -> Insn {
+    let kind = rng.pick(&[Kind::Sys, Kind::Trap, Kind::Rfe]);
+    trim(insn(kind, 0, 0, 0, rng.below(4) as u32))
+}
+
+/// A word of a program.
+pub fn program_word(rng: &mut Rng) -> u32 {
+    let form = match rng.below(100) {
+        0..=28 => arithmetic(rng),
+        29..=38 => comparison(rng),
+        39..=52 => control(rng),
+        53..=63 => load(rng),
+        64..=77 => store(rng),
+        78..=85 => atomic(rng),
+        86..=90 => special(rng),
+        91..=95 => quiet(rng),
+        96..=97 => system(rng),
+        _ => return any_word(rng),
+    };
+    assemble(rng, form)
+}
+
+/// A loop that adds 1 to the word r1 points to by l.lwa and l.swa, and tries
+/// again when another core was faster.
+pub fn counting_loop() -> [u32; 5] {
+    let forms = [
+        insn(Kind::Lwa, 5, 1, 0, 0),
+        insn(Kind::Addi, 5, 5, 0, 1),
+        insn(Kind::Swa, 0, 1, 5, 0),
+        insn(Kind::Bnf, 0, 0, 0, 0u32.wrapping_sub(12)),
+        insn(Kind::Nop, 0, 0, 0, 0),
+    ];
+    forms.map(|form| isa::encode(form.entry()) as u32)
+}
+
+/// A handler that goes on `skip` bytes after the instruction that raised.
+pub fn skipping_handler(skip: u32) -> [u32; 4] {
+    let forms = [
+        insn(Kind::Mfspr, 31, 0, 0, 32),
+        insn(Kind::Addi, 31, 31, 0, skip),
+        insn(Kind::Mtspr, 0, 0, 31, 32),
+        insn(Kind::Rfe, 0, 0, 0, 0),
+    ];
+    forms.map(|form| isa::encode(form.entry()) as u32)
+}

@@ -1,0 +1,251 @@
+//! The engine under test against this one, on whole runs: every answer and
+//! every lent byte by both runs, and nothing beside what is lent.
+//!
+//! Seeds are fixed. A case that fails is kept in a file for `replay`.
+#![cfg(feature = "engine")]
+
+use compare::battery::Pair;
+use compare::cases::{self, Case};
+use compare::check::{self, Codec, Engine, BY_HISTORY};
+use compare::dump;
+use compare::engine::Archive;
+use compare::guard::Guarded;
+use compare::isa;
+use compare::rng::Rng;
+use compare::runs::{MEMORY_LEAST, MEMORY_MOST, SCHEDULE_MOST};
+use compare::state::place;
+use std::collections::BTreeMap;
+use std::io::Write;
+use std::ops::Range;
+use std::path::{Path, PathBuf};
+use std::sync::atomic::{AtomicU64, Ordering};
+use std::sync::Mutex;
+use std::thread;
+
+const THREADS: usize = 2;
+/// Progress is shown this many times for each range of seeds.
+const SHOWN: u64 = 8;
+const PAIR: Pair = Pair { one: &BY_HISTORY, other: &Guarded(&Archive) };
+
+type Verdict = Result<(), String>;
+
+/// Not by `eprintln`, which a test that passes does not show.
+fn show(text: &str) {
+    let _ = writeln!(std::io::stderr(), "{text}");
+}
+
+/// Where the case of a disagreement is kept.
+fn file_of(what: &str) -> PathBuf {
+    Path::new(env!("CARGO_TARGET_TMPDIR")).join(format!("{}.case", what.replace(' ', "-")))
+}
+
+const AGAIN: &str = "run again: cargo run --release --offline --features engine --bin replay";
+
+/// Stops the test; a message with a case is kept whole in a file.
+fn stop(what: &str, text: &str) -> ! {
+    let file = file_of(what);
+    let first = text.lines().next().unwrap_or("");
+    match std::fs::write(&file, text) {
+        Ok(()) => panic!("{what}: {first}\n{AGAIN} < {}", file.display()),
+        Err(_) => panic!("{what}: {text}"),
+    }
+}
+
+/// Asks about every seed, in two threads.
+fn for_seeds(what: &str, seeds: Range<u64>, ask: impl Fn(u64) -> Verdict + Sync) {
+    show(&format!("{what}: seeds {} to {}", seeds.start, seeds.end - 1));
+    let (all, next) = (seeds.end - seeds.start, AtomicU64::new(seeds.start));
+    let done = AtomicU64::new(0);
+    let work = || -> Verdict {
+        loop {
+            let seed = next.fetch_add(1, Ordering::Relaxed);
+            if seed >= seeds.end {
+                return Ok(());
+            }
+            if let Err(text) = ask(seed) {
+                next.store(seeds.end, Ordering::Relaxed);
+                return Err(text);
+            }
+            let count = done.fetch_add(1, Ordering::Relaxed) + 1;
+            if count * SHOWN / all != (count - 1) * SHOWN / all {
+                show(&format!("{what}: {count} of {all} cases compared"));
+            }
+        }
+    };
+    let verdicts: Vec<Verdict> = thread::scope(|scope| {
+        let workers: Vec<_> = (0..THREADS).map(|_| scope.spawn(work)).collect();
+        workers.into_iter().map(|worker| worker.join().expect("no stray write")).collect()
+    });
+    for verdict in verdicts {
+        if let Err(text) = verdict {
+            stop(what, &text);
+        }
+    }
+}
+
+/// What these tests do with a disagreement: the case can be run again.
+#[test]
+fn a_disagreement_is_kept() {
+    let case = cases::accepted_case(&mut Rng::new(1), 10);
+    let text = format!("seed 1: not the same\n{}", dump::write_case(&case));
+    let ask = |seed: u64| if seed == 3 { Err(text.clone()) } else { Ok(()) };
+    let stopped = std::panic::catch_unwind(|| for_seeds("kept", 0..5, ask)).expect_err("stopped");
+    let message = stopped.downcast_ref::<String>().expect("a message");
+    assert!(message.contains("seed 1: not the same") && message.contains("--bin replay"));
+    let kept = std::fs::read_to_string(file_of("kept")).expect("a file");
+    assert_eq!(dump::read_case(&kept), Some(case));
+}
+
+fn one(seed: u64) -> Range<u64> {
+    seed..seed + 1
+}
+
+#[test]
+fn accepted_cases() {
+    for_seeds("accepted cases", 1_000_000..1_150_000, |seed| PAIR.accepted_cases(one(seed), 600));
+}
+
+/// Many short schedules: the edges of the cases themselves.
+#[test]
+fn short_schedules() {
+    for_seeds("short schedules", 2_000_000..2_030_000, |seed| PAIR.accepted_cases(one(seed), 8));
+}
+
+/// What a run left goes into the next one, which accepts it.
+#[test]
+fn runs_on_what_the_last_left() {
+    for_seeds("runs in a row", 3_000_000..3_004_000, |seed| {
+        let mut rng = Rng::new(seed);
+        let mut case = cases::accepted_case(&mut rng, 200);
+        for _ in 0..4 {
+            PAIR.case(&case, 0).map_err(|text| format!("seed {seed}: {text}"))?;
+            case = check::after_fast(PAIR.other, &case).case;
+            case.schedule = cases::schedule(&mut rng, case.cores(), 200);
+        }
+        Ok(())
+    });
+}
+
+#[test]
+fn broken_cases() {
+    let met: Mutex<BTreeMap<u8, u32>> = Mutex::default();
+    for_seeds("broken cases", 4_000_000..4_040_000, |seed| {
+        let refusal = cases::broken_case(&mut Rng::new(seed)).1;
+        *met.lock().expect("no panic").entry(refusal).or_default() += 1;
+        PAIR.broken_cases(one(seed))
+    });
+    let met = met.into_inner().expect("no panic");
+    show(&format!("broken cases, how many of each refusal: {met:?}"));
+    assert!((1..=7).all(|refusal| met.get(&refusal).is_some_and(|&count| count > 1_000)));
+}
+
+#[test]
+fn schedules_of_the_greatest_length() {
+    for_seeds("long schedules", 5_000_000..5_000_400, |seed| PAIR.long_schedules(one(seed)));
+}
+
+/// The largest memory, with the table empty, filled in part and filled whole.
+#[test]
+fn the_largest_memory() {
+    for_seeds("largest memory", 6_000_000..6_000_120, |seed| {
+        let mut case = cases::large_case(&mut Rng::new(seed));
+        for index in 0..case.table.len() {
+            match seed % 3 {
+                0 => case.table[index] = 0,
+                1 => case.table[index] = isa::decode(case.word(index)),
+                _ => {}
+            }
+        }
+        PAIR.case(&case, 0).map_err(|text| format!("seed {seed}: {text}"))
+    });
+}
+
+/// Memory from the least to the most, with a core at its very end.
+#[test]
+fn memory_lengths() {
+    let lengths = [MEMORY_LEAST, MEMORY_LEAST + 4, 16_384, 65_536, MEMORY_MOST - 4, MEMORY_MOST];
+    for_seeds("memory lengths", 7_000_000..7_000_240, |seed| {
+        let mut rng = Rng::new(seed);
+        let mut case = cases::accepted_case(&mut rng, 300);
+        let bytes = lengths[(seed % 6) as usize];
+        case.memory.resize(bytes, 0);
+        case.table = vec![0; bytes / 4];
+        case.sheets[place::PC] = (bytes - 4 * rng.between(1, 12)) as u32;
+        PAIR.case(&case, 0).map_err(|text| format!("seed {seed}: {text}"))
+    });
+}
+
+/// "An empty schedule changes nothing."
+#[test]
+fn empty_schedules() {
+    for_seeds("empty schedules", 8_000_000..8_003_000, |seed| {
+        let case = cases::accepted_case(&mut Rng::new(seed), 0);
+        PAIR.case(&case, 0)?;
+        let both = check::after_both(PAIR.other, &case);
+        let unchanged = both.plain.case == case && both.fast.case == case;
+        assert!(unchanged && both.plain.answer.pack() == 0 && both.fast.answer.pack() == 0);
+        Ok(())
+    });
+}
+
+/// A core whose schedule only raises, one that only reuses: counts at 65,536.
+#[test]
+fn the_greatest_counts() {
+    for word in [0xffff_ffff, 0x2100_0000, 0x1500_0000, 0x0000_0000] {
+        let mut case = Case {
+            memory: u32::to_be_bytes(word).repeat(MEMORY_LEAST / 4),
+            sheets: compare::card::reset_sheets(1, 0x100),
+            schedule: vec![0; SCHEDULE_MOST],
+            table: vec![isa::decode(word); MEMORY_LEAST / 4],
+        };
+        if let Err(text) = PAIR.case(&case, 0) {
+            stop("greatest counts", &text);
+        }
+        case.table.fill(0);
+        if let Err(text) = PAIR.case(&case, 0) {
+            stop("greatest counts", &text);
+        }
+    }
+}
+
+/// Nothing lent at all, and lengths that are each wrong, alone and together.
+#[test]
+fn any_lengths() {
+    let memories = [0, 1, 3, 4, 4_092, 4_096, 4_097, 1_048_576, 1_048_580];
+    let sheets = [0, 1, 41, 42, 43, 84, 168, 169, 210, 4_200];
+    let schedules = [0, 1, 65_536, 65_537];
+    let tables = [0, 1, 1_023, 1_024, 1_025, 262_144];
+    for memory in memories {
+        for sheet_words in sheets {
+            for entries in schedules {
+                for table in tables {
+                    let case = Case {
+                        memory: vec![0; memory],
+                        sheets: vec![0; sheet_words],
+                        schedule: vec![0; entries],
+                        table: vec![0; table],
+                    };
+                    if let Err(text) = check::same_case(PAIR.one, PAIR.other, &case) {
+                        stop("any lengths", &text);
+                    }
+                }
+            }
+        }
+    }
+}
+
+/// Buffers that share nothing with the ones before: the archive keeps nothing.
+#[test]
+fn the_archive_keeps_nothing() {
+    let cases: Vec<Case> =
+        (0..200).map(|seed| cases::accepted_case(&mut Rng::new(9_000_000 + seed), 200)).collect();
+    let first: Vec<_> = cases.iter().map(|case| check::after_fast(&Archive, case)).collect();
+    let again: Vec<_> = cases.iter().rev().map(|case| check::after_fast(&Archive, case)).collect();
+    assert!(
+        first.iter().eq(again.iter().rev()),
+        "{} is not a function of what is lent",
+        Archive.name()
+    );
+    let engine: &dyn Engine = &Archive;
+    assert_eq!(engine.plain_run(&mut [], &mut [], &[]), 1 << 60);
+}

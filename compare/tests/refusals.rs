@@ -1,0 +1,238 @@
+//! Every refusal at its edges, their order, and that nothing lent is written.
+
+use compare::card::reset_sheets;
+use compare::cases::Case;
+use compare::check::{self, Engine, BY_CACHE, BY_HISTORY};
+use compare::isa;
+use compare::runs::Answer;
+use compare::state::{place, SHEET_WORDS};
+
+/// A good case: nothing but l.nop, and every entry empty.
+fn good(cores: usize, bytes: usize) -> Case {
+    let memory = 0x1500_0000u32.to_be_bytes().repeat(bytes / 4);
+    Case {
+        sheets: reset_sheets(cores, 0x100),
+        schedule: vec![0, (cores - 1) as u8],
+        table: vec![0; memory.len() / 4],
+        memory,
+    }
+}
+
+/// The engines that are asked beside the first.
+fn others() -> Vec<&'static dyn Engine> {
+    vec![
+        &BY_HISTORY,
+        #[cfg(feature = "engine")]
+        &compare::guard::Guarded(&compare::engine::Archive),
+    ]
+}
+
+/// The refusals of the plain and the fast run, with all that was lent left as
+/// it was wherever one refused.
+fn refusals(case: &Case) -> (u8, u8) {
+    let plain = check::after_plain(&BY_CACHE, case);
+    let fast = check::after_fast(&BY_CACHE, case);
+    for other in others() {
+        check::same_case(&BY_CACHE, other, case).unwrap();
+    }
+    for left in [&plain, &fast] {
+        if left.answer.refusal != 0 {
+            assert_eq!(left.answer, Answer::refused(left.answer.refusal));
+            assert_eq!(left.case, *case);
+        }
+    }
+    (plain.answer.refusal, fast.answer.refusal)
+}
+
+#[test]
+fn packed_answers() {
+    let answer = Answer { refusal: 0, executed: 65_536, raised: 65_535, reused: 65_534 };
+    assert_eq!(answer.pack(), 65_534 << 40 | 65_535 << 20 | 65_536);
+    assert_eq!(Answer::unpack(answer.pack()), answer);
+    assert_eq!(Answer::refused(7).pack(), 7 << 60);
+    assert_eq!(Answer::unpack(7 << 60), Answer::refused(7));
+}
+
+#[test]
+fn refusal_1_memory_lengths() {
+    for bytes in [4_096, 4_100, 1_048_572, 1_048_576] {
+        assert_eq!(refusals(&good(1, bytes)), (0, 0), "{bytes}");
+    }
+    for bytes in [0, 1, 4, 4_092, 4_095, 4_097, 4_098, 4_099, 1_048_575, 1_048_577, 1_048_580] {
+        let mut case = good(1, 4_096);
+        case.memory.resize(bytes, 0);
+        assert_eq!(refusals(&case), (1, 1), "{bytes}");
+    }
+}
+
+#[test]
+fn refusal_2_sheet_counts() {
+    for cores in 1..=4 {
+        assert_eq!(refusals(&good(cores, 4_096)), (0, 0));
+    }
+    for words in [0, 1, 41, 43, 83, 85, 167, 169, 210, 420] {
+        let mut case = good(4, 4_096);
+        case.sheets.resize(words, 0);
+        assert_eq!(refusals(&case), (2, 2), "{words}");
+    }
+}
+
+/// Some words of a sheet with new values.
+type Change = &'static [(usize, u32)];
+
+const BROKEN: &[Change] = &[
+    &[(0, 1)],
+    &[(0, 0x8000_0000)],
+    &[(place::PC, 1)],
+    &[(place::PC, 2)],
+    &[(place::DELAY, 2)],
+    &[(place::DELAY, 3)],
+    &[(place::TARGET, 4)],
+    &[(place::DELAY, 1), (place::TARGET, 2)],
+    &[(place::EPCR, 3)],
+    &[(place::SR, 1)],
+    &[(place::ESR, 1)],
+    &[(place::SR, 0)],
+    &[(place::ESR, 0)],
+    &[(place::LINK, 2)],
+    &[(place::LINK, 0x1_0001)],
+    &[(place::LINK_ADDRESS, 4)],
+    &[(place::LINK, 1), (place::LINK_ADDRESS, 1)],
+    &[(place::MODE, 1)],
+    &[(place::MODE, 2)],
+    &[(place::MODE, 4)],
+    &[(place::MODE, 0x1_0003)],
+];
+
+const KEPT: &[Change] = &[
+    &[(1, u32::MAX)],
+    &[(31, u32::MAX)],
+    &[(place::PC, 0xffff_fffc)],
+    &[(place::DELAY, 1)],
+    &[(place::DELAY, 1), (place::TARGET, 0xffff_fffc)],
+    &[(place::EPCR, 0xffff_fffc)],
+    &[(place::EEAR, u32::MAX)],
+    &[(place::SR, 0x8000)],
+    &[(place::SR, 0xbe07)],
+    &[(place::ESR, 0xbe07)],
+    &[(place::LINK, 1)],
+    &[(place::LINK, 1), (place::LINK_ADDRESS, 0xffff_fffc)],
+    &[(place::MODE, 0)],
+];
+
+#[test]
+fn refusal_3_rules_of_a_sheet() {
+    BROKEN.iter().for_each(|change| changed(change, 3));
+    KEPT.iter().for_each(|change| changed(change, 0));
+}
+
+/// Tries a change on the first, the second and the last sheet of three.
+fn changed(change: Change, refusal: u8) {
+    for core in 0..3 {
+        let mut case = good(3, 4_096);
+        for &(word, value) in change {
+            case.sheets[core * SHEET_WORDS + word] = value;
+        }
+        assert_eq!(refusals(&case), (refusal, refusal), "core {core}: {change:x?}");
+    }
+}
+
+#[test]
+fn refusal_3_each_status_bit() {
+    for bit in 0..32 {
+        let may_change = matches!(bit, 0..=2 | 9..=13);
+        for word in [place::SR, place::ESR] {
+            let mut case = good(1, 4_096);
+            case.sheets[word] ^= 1 << bit;
+            let refusal = if may_change { 0 } else { 3 };
+            assert_eq!(refusals(&case), (refusal, refusal), "bit {bit} of word {word}");
+        }
+    }
+}
+
+#[test]
+fn refusal_4_schedule_length() {
+    for (entries, refusal) in [(0, 0), (65_536, 0), (65_537, 4), (100_000, 4)] {
+        let mut case = good(1, 4_096);
+        case.schedule = vec![0; entries];
+        assert_eq!(refusals(&case), (refusal, refusal), "{entries}");
+    }
+}
+
+#[test]
+fn refusal_5_entries() {
+    for cores in 1..=4 {
+        for entry in 0..=255 {
+            let mut case = good(cores, 4_096);
+            case.schedule.push(entry);
+            let refusal = if usize::from(entry) < cores { 0 } else { 5 };
+            assert_eq!(refusals(&case), (refusal, refusal), "{entry} of {cores}");
+        }
+    }
+    // A halted core does not excuse the entries after it.
+    let mut case = good(1, 4_096);
+    case.sheets[place::MODE] = 0;
+    case.schedule = vec![0, 1];
+    assert_eq!(refusals(&case), (5, 5));
+}
+
+#[test]
+fn refusals_6_and_7_concern_the_fast_run_alone() {
+    for entries in [0, 1, 1_023, 1_025, 4_096] {
+        let mut case = good(1, 4_096);
+        case.table.resize(entries, 0);
+        assert_eq!(refusals(&case), (0, 6), "{entries}");
+    }
+    let form = isa::decode(0x1500_0000);
+    for index in [0, 1, 512, 1_023] {
+        let mut case = good(1, 4_096);
+        case.table[index] = form;
+        assert_eq!(refusals(&case), (0, 0));
+        for wrong in [1 << 56, form ^ 1, form | 1 << 47, form | 1 << 42, 1, u64::MAX] {
+            case.table[index] = wrong;
+            assert_eq!(refusals(&case), (0, 7), "{wrong:x} at {index}");
+        }
+    }
+}
+
+/// Breaks a case so that it meets one refusal, on top of others.
+fn break_by(case: &mut Case, refusal: u8) {
+    match refusal {
+        1 => case.memory.push(0),
+        2 => case.sheets.push(0),
+        3 => case.sheets[0] = 1,
+        4 => case.schedule.resize(65_537, 0),
+        5 => case.schedule[0] = 4,
+        6 => case.table.push(0),
+        _ => case.table[5] = 1,
+    }
+}
+
+#[test]
+fn refusals_are_tested_in_order() {
+    for set in 1u32..128 {
+        let mut case = good(2, 4_096);
+        let met: Vec<u8> = (1..=7).filter(|refusal| set >> (refusal - 1) & 1 == 1).collect();
+        for &refusal in &met {
+            break_by(&mut case, refusal);
+        }
+        let plain = if met[0] <= 5 { met[0] } else { 0 };
+        assert_eq!(refusals(&case), (plain, met[0]), "{met:?}");
+    }
+}
+
+#[test]
+fn counts_of_a_small_run() {
+    // Core 1 is halted; core 0 runs l.nop three times and then l.trap.
+    let mut case = good(2, 4_096);
+    case.set_word(0x10c / 4, 0x2100_0000);
+    case.sheets[SHEET_WORDS + place::MODE] = 0;
+    case.schedule = vec![0, 1, 0, 1, 0, 0, 0];
+    case.table[0x104 / 4] = isa::decode(0x1500_0000);
+    let left = check::after_fast(&BY_CACHE, &case);
+    assert_eq!(left.answer, Answer { refusal: 0, executed: 5, raised: 1, reused: 1 });
+    let filled: Vec<usize> = (0..1_024).filter(|&index| left.case.table[index] != 0).collect();
+    assert_eq!(filled, [0x40, 0x41, 0x42, 0x43, 0xe00 / 4]);
+    let plain = check::after_plain(&BY_CACHE, &case);
+    assert_eq!(plain.answer, Answer { refusal: 0, executed: 5, raised: 1, reused: 0 });
+}
