@@ -14,6 +14,7 @@ pub mod dump;
 pub mod engine;
 pub mod exec;
 pub mod guard;
+pub mod image;
 pub mod isa;
 pub mod programs;
 pub mod rng;

@@ -4,6 +4,9 @@
 //! Seeds are fixed. A case that fails is kept in a file for `replay`.
 #![cfg(feature = "engine")]
 
+mod common;
+
+use common::{file_of, show, stop};
 use compare::battery::Pair;
 use compare::cases::{self, Case};
 use compare::check::{self, Codec, Engine, BY_HISTORY};
@@ -15,9 +18,7 @@ use compare::rng::Rng;
 use compare::runs::{MEMORY_LEAST, MEMORY_MOST, SCHEDULE_MOST};
 use compare::state::place;
 use std::collections::BTreeMap;
-use std::io::Write;
 use std::ops::Range;
-use std::path::{Path, PathBuf};
 use std::sync::atomic::{AtomicU64, Ordering};
 use std::sync::Mutex;
 use std::thread;
@@ -28,28 +29,6 @@ const SHOWN: u64 = 8;
 const PAIR: Pair = Pair { one: &BY_HISTORY, other: &Guarded(&Archive) };
 
 type Verdict = Result<(), String>;
-
-/// Not by `eprintln`, which a test that passes does not show.
-fn show(text: &str) {
-    let _ = writeln!(std::io::stderr(), "{text}");
-}
-
-/// Where the case of a disagreement is kept.
-fn file_of(what: &str) -> PathBuf {
-    Path::new(env!("CARGO_TARGET_TMPDIR")).join(format!("{}.case", what.replace(' ', "-")))
-}
-
-const AGAIN: &str = "run again: cargo run --release --offline --features engine --bin replay";
-
-/// Stops the test; a message with a case is kept whole in a file.
-fn stop(what: &str, text: &str) -> ! {
-    let file = file_of(what);
-    let first = text.lines().next().unwrap_or("");
-    match std::fs::write(&file, text) {
-        Ok(()) => panic!("{what}: {first}\n{AGAIN} < {}", file.display()),
-        Err(_) => panic!("{what}: {text}"),
-    }
-}
 
 /// Asks about every seed, in two threads.
 fn for_seeds(what: &str, seeds: Range<u64>, ask: impl Fn(u64) -> Verdict + Sync) {

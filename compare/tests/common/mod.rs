@@ -1,10 +1,13 @@
-//! A small bench for tests of single steps.
+//! A small bench for tests of single steps, and what tests do with lines to
+//! show and with disagreements.
 #![allow(dead_code)]
 
 use compare::exec::Step;
 use compare::isa::{self, Insn, Kind};
 use compare::runs;
 use compare::state::Core;
+use std::io::Write;
+use std::path::{Path, PathBuf};
 
 pub const BYTES: usize = 4_096;
 
@@ -58,4 +61,26 @@ pub fn on_two(word: u32, sr: u32, x: u32, y: u32) -> (Bench, Step) {
     bench.cores[0].sr = sr;
     let step = bench.run(0, word);
     (bench, step)
+}
+
+/// Not by `eprintln`, which a test that passes does not show.
+pub fn show(text: &str) {
+    let _ = writeln!(std::io::stderr(), "{text}");
+}
+
+/// Where the case of a disagreement is kept.
+pub fn file_of(what: &str) -> PathBuf {
+    Path::new(env!("CARGO_TARGET_TMPDIR")).join(format!("{}.case", what.replace(' ', "-")))
+}
+
+const AGAIN: &str = "run again: cargo run --release --offline --features engine --bin replay";
+
+/// Stops the test; a message with a case is kept whole in a file.
+pub fn stop(what: &str, text: &str) -> ! {
+    let file = file_of(what);
+    let first = text.lines().next().unwrap_or("");
+    match std::fs::write(&file, text) {
+        Ok(()) => panic!("{what}: {first}\n{AGAIN} < {}", file.display()),
+        Err(_) => panic!("{what}: {text}"),
+    }
 }

@@ -1,0 +1,67 @@
+//! Compiled programs: the images in `programs/` and the cases that run them.
+
+use crate::card::reset_sheets;
+use crate::cases::Case;
+use std::ops::Range;
+use std::path::{Path, PathBuf};
+
+/// Where every core of a compiled program starts.
+pub const RESET: u32 = 0x100;
+/// The memory that the linker script lays out.
+pub const BYTES: usize = 65_536;
+
+/// A program's words from address 0.
+#[derive(Clone, Debug, PartialEq, Eq)]
+pub struct Image {
+    pub words: Vec<u32>,
+}
+
+/// The folder of the sources and of the stored images.
+pub fn folder() -> PathBuf {
+    Path::new(env!("CARGO_MANIFEST_DIR")).join("programs")
+}
+
+impl Image {
+    /// Lines of an address and words, all hexadecimal; what no line gives is 0.
+    /// Nothing, if a line is damaged.
+    pub fn parse(text: &str) -> Option<Image> {
+        let mut words = Vec::new();
+        for line in text.lines() {
+            let mut numbers = line.split(' ').map(|number| u32::from_str_radix(number, 16));
+            let first = numbers.next()?.ok()? as usize / 4;
+            words.resize(first, 0);
+            for word in numbers {
+                words.push(word.ok()?);
+            }
+        }
+        Some(Image { words })
+    }
+
+    /// The image in a file of a folder.
+    pub fn load(folder: &Path, name: &str) -> Image {
+        let file = folder.join(format!("{name}.hex"));
+        let text = std::fs::read_to_string(&file);
+        let image = text.ok().and_then(|text| Image::parse(&text));
+        image.unwrap_or_else(|| panic!("no image in {}", file.display()))
+    }
+
+    /// The indices of its code: from the reset vector to the end that the word
+    /// at 0 names.
+    pub fn code(&self) -> Range<usize> {
+        RESET as usize / 4..self.words[0] as usize / 4
+    }
+
+    /// Cores just reset, the image in memory, no schedule and an empty table.
+    pub fn case(&self, bytes: usize, cores: usize) -> Case {
+        let mut case = Case {
+            memory: vec![0; bytes],
+            sheets: reset_sheets(cores, RESET),
+            schedule: vec![],
+            table: vec![0; bytes / 4],
+        };
+        for (index, &word) in self.words.iter().enumerate() {
+            case.set_word(index, word);
+        }
+        case
+    }
+}

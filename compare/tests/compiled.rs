@@ -1,0 +1,387 @@
+//! Compiled C programs, run to their end in calls of up to 65,536 entries.
+//!
+//! After each call every lent byte is compared, and at the end the results
+//! with those worked out here. The stored images always run; where the
+//! compiler is installed, freshly built ones do too.
+
+mod common;
+
+use common::{show, stop};
+use compare::cases::Case;
+use compare::check::{self, Engine, BY_CACHE, BY_HISTORY};
+use compare::image::{self, Image};
+use compare::isa::{self, Kind};
+use compare::rng::Rng;
+use compare::runs::SCHEDULE_MOST;
+use compare::state::{place, SHEET_WORDS};
+use std::collections::BTreeSet;
+use std::path::Path;
+use std::process::Command;
+
+/// Where a program's struct of results lies.
+const RESULTS: usize = 0x8000;
+const COMPILER: &str = "or1k-elf-gcc";
+/// More calls than any program needs.
+const CALLS_MOST: usize = 64;
+
+/// A program, its cores, how many exceptions it takes and what it must leave.
+struct Program {
+    name: &'static str,
+    cores: &'static [usize],
+    raised: u32,
+    check: fn(&Ran),
+}
+
+const fn program(name: &'static str, check: fn(&Ran)) -> Program {
+    Program { name, cores: &[1], raised: 0, check }
+}
+
+const PROGRAMS: [Program; 9] = [
+    program("sieve", sieve),
+    program("crc32", crc32),
+    program("sort", sort),
+    program("strings", strings),
+    program("histogram", histogram),
+    program("bands", bands),
+    program("digest", digest),
+    Program { raised: 25, ..program("calls", calls) },
+    Program { cores: &[1, 2, 3, 4], ..program("cores", cores) },
+];
+
+/// Each program is there twice: by the least instructions, and by all.
+const SUFFIXES: [&str; 2] = ["", "-full"];
+
+/// What a program left when all its cores had halted.
+struct Ran {
+    case: Case,
+    executed: u32,
+    raised: u32,
+}
+
+impl Ran {
+    /// What main returned on a core.
+    fn result(&self, core: usize) -> u32 {
+        self.case.sheets[core * SHEET_WORDS + 11]
+    }
+    fn byte(&self, offset: usize) -> u8 {
+        self.case.memory[RESULTS + offset]
+    }
+    fn half(&self, offset: usize) -> u16 {
+        u16::from_be_bytes([self.byte(offset), self.byte(offset + 1)])
+    }
+    fn word(&self, offset: usize) -> u32 {
+        self.case.word((RESULTS + offset) / 4)
+    }
+    fn words(&self, offset: usize, count: usize) -> Vec<u32> {
+        (0..count).map(|index| self.word(offset + 4 * index)).collect()
+    }
+    fn halves(&self, offset: usize, count: usize) -> Vec<u16> {
+        (0..count).map(|index| self.half(offset + 2 * index)).collect()
+    }
+}
+
+/// The engines that are held against the one by history.
+fn others() -> Vec<&'static dyn Engine> {
+    vec![
+        &BY_CACHE,
+        #[cfg(feature = "engine")]
+        &compare::guard::Guarded(&compare::engine::Archive),
+    ]
+}
+
+/// How several cores take turns.
+#[derive(Clone, Copy, Debug)]
+enum Manner {
+    Turns,
+    Dice,
+    Bursts,
+}
+
+fn schedule(rng: &mut Rng, manner: Manner, cores: usize, entries: usize) -> Vec<u8> {
+    let mut core = 0;
+    let mut entry = |index: usize| {
+        core = match manner {
+            Manner::Turns => index % cores,
+            Manner::Bursts if !rng.one_in(40) => core,
+            _ => rng.below(cores),
+        };
+        core as u8
+    };
+    (0..entries).map(&mut entry).collect()
+}
+
+fn is_running(case: &Case) -> bool {
+    case.sheets.chunks(SHEET_WORDS).any(|sheet| sheet[place::MODE] != 0)
+}
+
+/// One call by both runs of every engine; the answer and what is left.
+fn call(case: &Case) -> Result<check::Left, String> {
+    let one = check::after_both(&BY_HISTORY, case);
+    for other in others() {
+        let left = check::after_both(other, case);
+        check::same_left(["by history", other.name()], case, &one, &left)?;
+        check::left_as_promised(other.name(), case, &left)?;
+    }
+    Ok(one.fast)
+}
+
+/// Calls until every core has halted.
+fn run(name: &str, image: &Image, cores: usize, manner: Manner, entries: usize) -> Ran {
+    let mut ran = Ran { case: image.case(image::BYTES, cores), executed: 0, raised: 0 };
+    let mut rng = Rng::new(entries as u64);
+    for _ in 0..CALLS_MOST * SCHEDULE_MOST / entries {
+        ran.case.schedule = schedule(&mut rng, manner, cores, entries);
+        let left = call(&ran.case).unwrap_or_else(|text| stop(name, &text));
+        ran.executed += left.answer.executed;
+        ran.raised += left.answer.raised;
+        ran.case = left.case;
+        if !is_running(&ran.case) {
+            return ran;
+        }
+    }
+    panic!("{name}: still running after {} instructions", ran.executed);
+}
+
+/// "Any word that no row fits ... is kind 1": code has none.
+fn assert_code_is_legal(name: &str, image: &Image) {
+    for index in image.code() {
+        let word = image.words[index];
+        let kind = isa::decode_insn(word).kind;
+        assert_ne!(kind, Kind::Illegal, "{name}: {word:08x} at {:x}", 4 * index);
+    }
+}
+
+/// The manners that make a difference with so many cores.
+fn manners(cores: usize) -> &'static [Manner] {
+    match cores {
+        1 => &[Manner::Turns],
+        _ => &[Manner::Turns, Manner::Dice, Manner::Bursts],
+    }
+}
+
+/// Runs a program's image in every manner and checks what it left.
+fn run_image(program: &Program, file: &str, image: &Image) {
+    assert_code_is_legal(file, image);
+    let (mut runs, mut executed) = (0, 0);
+    for &cores in program.cores {
+        for &manner in manners(cores) {
+            for entries in [SCHEDULE_MOST, 9_973] {
+                let ran = run(file, image, cores, manner, entries);
+                assert_eq!(ran.raised, program.raised, "{file}");
+                (program.check)(&ran);
+                runs += 1;
+                executed += ran.executed;
+            }
+        }
+    }
+    show(&format!("{file}: right {runs} times, {executed} instructions in all"));
+}
+
+fn run_folder(folder: &Path, program: &Program) {
+    for suffix in SUFFIXES {
+        let file = format!("{}{suffix}", program.name);
+        run_image(program, &file, &Image::load(folder, &file));
+    }
+}
+
+#[test]
+fn stored_images() {
+    for program in &PROGRAMS {
+        run_folder(&image::folder(), program);
+    }
+}
+
+/// Builds with the script that made the stored images.
+fn build(folder: &Path) {
+    let script = image::folder().join("build");
+    let made = Command::new(script).arg(folder).output().expect("bash runs the script");
+    assert!(made.status.success(), "{}", String::from_utf8_lossy(&made.stderr));
+}
+
+#[test]
+fn fresh_images() {
+    if Command::new(COMPILER).arg("--version").output().is_err() {
+        return show(&format!("fresh images: skipped, {COMPILER} is not installed"));
+    }
+    let folder = Path::new(env!("CARGO_TARGET_TMPDIR")).join("programs");
+    build(&folder);
+    let mut same = 0;
+    for program in &PROGRAMS {
+        run_folder(&folder, program);
+        for suffix in SUFFIXES {
+            let file = format!("{}{suffix}", program.name);
+            let stored = Image::load(&image::folder(), &file);
+            same += usize::from(stored == Image::load(&folder, &file));
+        }
+    }
+    let all = PROGRAMS.len() * SUFFIXES.len();
+    show(&format!("fresh images: {same} of {all} are the stored ones word for word"));
+}
+
+/// The kinds that stand in the stored programs' code.
+#[test]
+fn kinds_in_the_code() {
+    let mut kinds = BTreeSet::new();
+    for program in &PROGRAMS {
+        for suffix in SUFFIXES {
+            let image = Image::load(&image::folder(), &format!("{}{suffix}", program.name));
+            kinds.extend(image.code().map(|index| isa::decode_insn(image.words[index]).kind));
+        }
+    }
+    let count = kinds.len();
+    show(&format!("the stored programs have {count} kinds: {kinds:?}"));
+    assert!(count >= 55, "only {count} kinds");
+}
+
+/// The programs' generator: Marsaglia's xorshift32.
+struct Xorshift(u32);
+
+impl Xorshift {
+    fn next(&mut self) -> u32 {
+        self.0 ^= self.0 << 13;
+        self.0 ^= self.0 >> 17;
+        self.0 ^= self.0 << 5;
+        self.0
+    }
+}
+
+fn sieve(ran: &Ran) {
+    let is_prime = |n: &u32| (2..).take_while(|d| d * d <= *n).all(|d| n % d != 0);
+    assert_eq!(ran.result(0), (2..8_192).filter(is_prime).count() as u32);
+}
+
+/// By long division of the reflected message, not by shifts to the right.
+fn crc_of(bytes: &[u8]) -> u32 {
+    let mut rest = 0xffff_ffffu32;
+    for byte in bytes {
+        rest ^= u32::from(byte.reverse_bits()) << 24;
+        for _ in 0..8 {
+            let carry = rest >> 31;
+            rest = rest << 1 ^ carry * 0x04c1_1db7;
+        }
+    }
+    !rest.reverse_bits()
+}
+
+fn crc32(ran: &Ran) {
+    let mut bytes = Xorshift(1);
+    let band: Vec<u8> = (0..4_096).map(|_| (bytes.next() >> 24) as u8).collect();
+    assert_eq!(ran.words(0, 2), [0xcbf4_3926, crc_of(&band)]);
+    assert_eq!(crc_of(b"123456789"), 0xcbf4_3926);
+}
+
+fn sort(ran: &Ran) {
+    let mut numbers = Xorshift(2);
+    let mut words: Vec<i32> = (0..1_024).map(|_| numbers.next() as i32).collect();
+    let mut halves: Vec<i16> = (0..512).map(|_| numbers.next() as i16).collect();
+    words.sort_unstable();
+    halves.sort_unstable();
+    let sum = words.iter().fold(0i32, |sum, &word| sum.wrapping_add(word));
+    let found: Vec<i32> = ran.words(0, 1_024).iter().map(|&word| word as i32).collect();
+    assert_eq!(found, words);
+    let found: Vec<i16> = ran.halves(4_096, 512).iter().map(|&half| half as i16).collect();
+    assert_eq!(found, halves);
+    assert_eq!(ran.result(0), sum as u32);
+}
+
+fn strings(ran: &Ran) {
+    let text = b"0 fibres, 9 bands; 10 fibres, 65536 bands; 4294967295 fibres, ";
+    let mut bytes = [0; 256];
+    bytes[..text.len()].copy_from_slice(text);
+    bytes.copy_within(0..20, 3);
+    // This one takes the string's end along.
+    bytes.copy_within(43..63, 40);
+    let length = bytes.iter().position(|&byte| byte == 0).expect("an end");
+    assert_eq!((0..256).map(|index| ran.byte(index)).collect::<Vec<u8>>(), bytes);
+    let half = |index: usize| u16::from_le_bytes([bytes[2 * index], bytes[2 * index + 1]]);
+    assert_eq!(ran.halves(256, 64), (0..64).map(half).collect::<Vec<u16>>());
+    let ordered = [0, -i32::from(b's'), -128 - 127, i32::from(b'm') - i32::from(b'M')];
+    assert_eq!(ran.words(384, 4), ordered.map(|difference| difference as u32));
+    assert_eq!(ran.result(0), length as u32);
+}
+
+/// The band that the histogram's program makes: 64 rows of 96 bytes.
+fn exposed_band() -> Vec<Vec<u8>> {
+    let mut noise = Xorshift(3);
+    let mut row = |y: usize| {
+        let mut byte = |x: usize| (noise.next() as u8 & 0x7f) | u8::from((x + y) & 12 == 12) << 7;
+        (0..96).map(&mut byte).collect()
+    };
+    (0..64).map(&mut row).collect()
+}
+
+fn histogram(ran: &Ran) {
+    let band = exposed_band();
+    let mut all: Vec<u8> = band.concat();
+    let count = |value: u8| all.iter().filter(|&&byte| byte == value).count() as u32;
+    assert_eq!(ran.words(0, 256), (0..=255).map(count).collect::<Vec<u32>>());
+    all.sort_unstable();
+    let threshold = all[all.len() / 4 * 3 - 1] + 1;
+    let bright: Vec<Vec<bool>> =
+        band.iter().map(|row| row.iter().map(|&byte| byte >= threshold).collect()).collect();
+    let starts = |row: &Vec<bool>| {
+        usize::from(row[0]) + row.windows(2).filter(|pair| !pair[0] && pair[1]).count()
+    };
+    let fibres: usize = bright.iter().map(starts).sum();
+    assert_eq!(ran.words(1_024, 2), [u32::from(threshold), fibres as u32]);
+    let place = |found: Option<usize>| found.map_or(0, |index| index as u32 + 1);
+    let first = |row: &Vec<bool>| place(row[..32].iter().position(|&bright| bright));
+    let last = |row: &Vec<bool>| place(row[..32].iter().rposition(|&bright| bright));
+    assert_eq!(ran.words(1_032, 64), bright.iter().map(first).collect::<Vec<u32>>());
+    assert_eq!(ran.words(1_288, 64), bright.iter().map(last).collect::<Vec<u32>>());
+    assert_eq!(ran.result(0), fibres as u32);
+}
+
+fn bands(ran: &Ran) {
+    let mut numbers = Xorshift(4);
+    let band: Vec<i32> = (0..200).map(|_| numbers.next() as i32 & 0xff).collect();
+    let of_lamp = |lamp: i32| band.iter().map(move |byte| ((byte + 17 - 10 * lamp) << lamp) as u16);
+    let exposed: Vec<u16> = (0..5).flat_map(of_lamp).collect();
+    assert_eq!(ran.halves(0, 1_000), exposed);
+    assert_eq!(ran.result(0), exposed.iter().map(|&half| u32::from(half)).sum::<u32>());
+}
+
+fn digest(ran: &Ran) {
+    let mut numbers = Xorshift(5);
+    let (mut by_seven, mut by_itself, mut wide, mut borrows) = (0u32, 0u32, 0u64, 0);
+    let (mut bytes, mut halves) = (0, 0);
+    for _ in 0..500 {
+        let x = numbers.next();
+        by_seven = (by_seven ^ x).rotate_right(7);
+        by_itself = by_itself.wrapping_add(x).rotate_right(x);
+        wide = wide.wrapping_add(u64::from(x)).wrapping_sub(1);
+        borrows += u32::from(x < wide as u32);
+        bytes += i32::from((x >> 3) as i8);
+        halves += i32::from((x >> 5) as i16);
+    }
+    let results = [by_seven, by_itself, (wide >> 32) as u32, wide as u32, borrows];
+    assert_eq!(ran.words(0, 5), results);
+    assert_eq!(ran.words(20, 2), [bytes as u32, halves as u32]);
+    assert_eq!(ran.result(0), by_seven ^ by_itself);
+}
+
+fn calls(ran: &Ran) {
+    let mut taken = [0; 16];
+    (taken[2], taken[6], taken[7], taken[11], taken[12], taken[14]) = (1, 1, 1, 1, 20, 1);
+    assert_eq!(ran.words(0, 16), taken);
+    assert_eq!(ran.word(64 + 4 * 6), RESULTS as u32 + 2);
+    assert_eq!(ran.word(64 + 4 * 2), 0xffff_fff0);
+    // Answers: the calls' sum, sums with and without OVE, loads that raise.
+    let answers = [190 + 2_000, 0x8000_0000, 0x8000_0001, 1, 0x55, 0x55, 0, 0];
+    assert_eq!(ran.words(128, 8), answers);
+    assert_eq!(ran.result(0), 20);
+}
+
+fn cores(ran: &Ran) {
+    let cores = ran.case.cores() as u32;
+    let row_sum = |row: u32| {
+        let mut bytes = Xorshift(row + 1);
+        (0..64).map(|_| bytes.next() & 0xff).sum::<u32>()
+    };
+    let total: u32 = (0..64).map(row_sum).sum();
+    let counter = (1..=cores).sum::<u32>() * 100;
+    assert_eq!(ran.words(0, 4), [counter, 100 * cores, 100 * cores, total]);
+    for core in 0..cores {
+        assert_eq!(ran.result(core as usize), total + core);
+    }
+}
