@@ -6,9 +6,9 @@
 
 mod common;
 
-use common::{show, stop};
+use common::{engines, show, stop};
 use compare::cases::Case;
-use compare::check::{self, Engine, BY_CACHE, BY_HISTORY};
+use compare::check;
 use compare::image::{self, Image};
 use compare::isa::{self, Kind};
 use compare::rng::Rng;
@@ -80,15 +80,6 @@ impl Ran {
     }
 }
 
-/// The engines that are held against the one by history.
-fn others() -> Vec<&'static dyn Engine> {
-    vec![
-        &BY_CACHE,
-        #[cfg(feature = "engine")]
-        &compare::guard::Guarded(&compare::engine::Archive),
-    ]
-}
-
 /// How several cores take turns.
 #[derive(Clone, Copy, Debug)]
 enum Manner {
@@ -116,10 +107,11 @@ fn is_running(case: &Case) -> bool {
 
 /// One call by both runs of every engine; the answer and what is left.
 fn call(case: &Case) -> Result<check::Left, String> {
-    let one = check::after_both(&BY_HISTORY, case);
-    for other in others() {
-        let left = check::after_both(other, case);
-        check::same_left(["by history", other.name()], case, &one, &left)?;
+    let engines = engines();
+    let one = check::after_both(engines[0], case);
+    for other in &engines[1..] {
+        let left = check::after_both(*other, case);
+        check::same_left([engines[0].name(), other.name()], case, &one, &left)?;
         check::left_as_promised(other.name(), case, &left)?;
     }
     Ok(one.fast)

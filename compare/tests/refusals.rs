@@ -1,8 +1,11 @@
 //! Every refusal at its edges, their order, and that nothing lent is written.
 
+mod common;
+
+use common::engines;
 use compare::card::reset_sheets;
 use compare::cases::Case;
-use compare::check::{self, Engine, BY_CACHE, BY_HISTORY};
+use compare::check::{self, BY_CACHE};
 use compare::isa;
 use compare::runs::Answer;
 use compare::state::{place, SHEET_WORDS};
@@ -18,21 +21,12 @@ fn good(cores: usize, bytes: usize) -> Case {
     }
 }
 
-/// The engines that are asked beside the first.
-fn others() -> Vec<&'static dyn Engine> {
-    vec![
-        &BY_HISTORY,
-        #[cfg(feature = "engine")]
-        &compare::guard::Guarded(&compare::engine::Archive),
-    ]
-}
-
 /// The refusals of the plain and the fast run, with all that was lent left as
 /// it was wherever one refused.
 fn refusals(case: &Case) -> (u8, u8) {
     let plain = check::after_plain(&BY_CACHE, case);
     let fast = check::after_fast(&BY_CACHE, case);
-    for other in others() {
+    for other in engines() {
         check::same_case(&BY_CACHE, other, case).unwrap();
     }
     for left in [&plain, &fast] {

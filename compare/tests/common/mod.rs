@@ -1,7 +1,8 @@
-//! A small bench for tests of single steps, and what tests do with lines to
-//! show and with disagreements.
+//! What tests share: the engines, a small bench for single steps, and what to
+//! do with lines to show and with disagreements.
 #![allow(dead_code)]
 
+use compare::check::{Engine, BY_CACHE, BY_HISTORY};
 use compare::exec::Step;
 use compare::isa::{self, Insn, Kind};
 use compare::runs;
@@ -10,6 +11,16 @@ use std::io::Write;
 use std::path::{Path, PathBuf};
 
 pub const BYTES: usize = 4_096;
+
+/// The engines that are to agree; with the feature `engine`, the archive too.
+pub fn engines() -> Vec<&'static dyn Engine> {
+    vec![
+        &BY_HISTORY,
+        &BY_CACHE,
+        #[cfg(feature = "engine")]
+        &compare::guard::Guarded(&compare::engine::Archive),
+    ]
+}
 
 /// One to four cores and 4,096 bytes.
 #[derive(Clone, PartialEq, Debug)]
