@@ -21,6 +21,28 @@ static inline u32 next(u32 *state)
     return *state = x;
 }
 
+/* A special register: 128 is the core's number, 129 the count of cores. */
+static inline u32 special(u32 number)
+{
+    u32 value;
+    __asm__("l.mfspr %0, %1, 0" : "=r"(value) : "r"(number));
+    return value;
+}
+
+/* Adds to a word that other cores may change meanwhile. */
+static inline u32 add(volatile u32 *word, u32 amount)
+{
+    u32 value;
+    __asm__ volatile(
+        "1: l.lwa   %0, 0(%1)\n"
+        "   l.add   %0, %0, %2\n"
+        "   l.swa   0(%1), %0\n"
+        "   l.bnf   1b\n"
+        "   l.nop\n"
+        : "=&r"(value) : "r"(word), "r"(amount) : "memory", "cc");
+    return value;
+}
+
 /* The processor has no multiply or divide; the compiler calls these. */
 u32 __mulsi3(u32 a, u32 b);
 u32 __udivsi3(u32 a, u32 b);

@@ -13,26 +13,6 @@ OUT volatile struct {
 
 static volatile u32 lock, arrived;
 
-static inline u32 special(u32 number)
-{
-    u32 value;
-    __asm__("l.mfspr %0, %1, 0" : "=r"(value) : "r"(number));
-    return value;
-}
-
-static inline u32 add(volatile u32 *word, u32 amount)
-{
-    u32 value;
-    __asm__ volatile(
-        "1: l.lwa   %0, 0(%1)\n"
-        "   l.add   %0, %0, %2\n"
-        "   l.swa   0(%1), %0\n"
-        "   l.bnf   1b\n"
-        "   l.nop\n"
-        : "=&r"(value) : "r"(word), "r"(amount) : "memory", "cc");
-    return value;
-}
-
 static inline void take(volatile u32 *word)
 {
     u32 value;

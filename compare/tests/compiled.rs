@@ -24,28 +24,35 @@ const COMPILER: &str = "or1k-elf-gcc";
 /// More calls than any program needs.
 const CALLS_MOST: usize = 64;
 
-/// A program, its cores, how many exceptions it takes and what it must leave.
+/// A program, its cores, how many exceptions it takes, how often a store empties
+/// an entry that is fetched again, and what it must leave.
 struct Program {
     name: &'static str,
     cores: &'static [usize],
     raised: u32,
+    refilled: u32,
     check: fn(&Ran),
 }
 
 const fn program(name: &'static str, check: fn(&Ran)) -> Program {
-    Program { name, cores: &[1], raised: 0, check }
+    Program { name, cores: &[1], raised: 0, refilled: 0, check }
 }
 
-const PROGRAMS: [Program; 9] = [
+const ANY: [usize; 4] = [1, 2, 3, 4];
+
+const PROGRAMS: [Program; 10] = [
     program("sieve", sieve),
     program("crc32", crc32),
     program("sort", sort),
     program("strings", strings),
     program("histogram", histogram),
-    program("bands", bands),
+    // Two words for each lamp but the first.
+    Program { refilled: 8, ..program("bands", bands) },
     program("digest", digest),
     Program { raised: 25, ..program("calls", calls) },
-    Program { cores: &[1, 2, 3, 4], ..program("cores", cores) },
+    Program { cores: &ANY, ..program("cores", cores) },
+    // One word for each lamp but the first.
+    Program { cores: &ANY, refilled: 29, ..program("patch", patch) },
 ];
 
 /// Each program is there twice: by the least instructions, and by all.
@@ -56,9 +63,17 @@ struct Ran {
     case: Case,
     executed: u32,
     raised: u32,
+    reused: u32,
 }
 
 impl Ran {
+    /// Fetches that filled an entry, beyond the first of each word. By "History"
+    /// an entry is filled at the end if its word was fetched after its last store.
+    fn refilled(&self) -> u32 {
+        let held = self.case.table.iter().filter(|&&entry| entry != 0).count();
+        self.executed - self.reused - held as u32
+    }
+
     /// What main returned on a core.
     fn result(&self, core: usize) -> u32 {
         self.case.sheets[core * SHEET_WORDS + 11]
@@ -119,13 +134,14 @@ fn call(case: &Case) -> Result<check::Left, String> {
 
 /// Calls until every core has halted.
 fn run(name: &str, image: &Image, cores: usize, manner: Manner, entries: usize) -> Ran {
-    let mut ran = Ran { case: image.case(image::BYTES, cores), executed: 0, raised: 0 };
+    let mut ran = Ran { case: image.case(image::BYTES, cores), executed: 0, raised: 0, reused: 0 };
     let mut rng = Rng::new(entries as u64);
     for _ in 0..CALLS_MOST * SCHEDULE_MOST / entries {
         ran.case.schedule = schedule(&mut rng, manner, cores, entries);
         let left = call(&ran.case).unwrap_or_else(|text| stop(name, &text));
         ran.executed += left.answer.executed;
         ran.raised += left.answer.raised;
+        ran.reused += left.answer.reused;
         ran.case = left.case;
         if !is_running(&ran.case) {
             return ran;
@@ -160,6 +176,7 @@ fn run_image(program: &Program, file: &str, image: &Image) {
             for entries in [SCHEDULE_MOST, 9_973] {
                 let ran = run(file, image, cores, manner, entries);
                 assert_eq!(ran.raised, program.raised, "{file}");
+                assert_eq!(ran.refilled(), program.refilled, "{file}");
                 (program.check)(&ran);
                 runs += 1;
                 executed += ran.executed;
@@ -375,5 +392,13 @@ fn cores(ran: &Ran) {
     assert_eq!(ran.words(0, 4), [counter, 100 * cores, 100 * cores, total]);
     for core in 0..cores {
         assert_eq!(ran.result(core as usize), total + core);
+    }
+}
+
+fn patch(ran: &Ran) {
+    let sum: u32 = (1..=30).map(|lamp: i32| (7 * lamp - 100) as u32).fold(0, u32::wrapping_add);
+    for core in 0..ran.case.cores() {
+        assert_eq!(ran.word(4 * core), sum << core);
+        assert_eq!(ran.result(core), sum << core);
     }
 }
