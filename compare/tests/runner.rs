@@ -14,7 +14,8 @@ use compare::cards;
 use compare::rng::Rng;
 use std::io::Write;
 use std::path::{Path, PathBuf};
-use std::process::{Child, Command, Stdio};
+use std::process::{Child, ChildStdin, Command, Stdio};
+use std::thread;
 use std::time::Duration;
 
 /// Names the program; a relative path starts at this package's folder.
@@ -50,19 +51,25 @@ fn start(program: &Path) -> Child {
     command.spawn().unwrap_or_else(|error| panic!("{}: {error}", program.display()))
 }
 
-/// What the program prints for a card that comes in these pieces, with a pause
-/// between them. It may stop reading a card that is too long.
-fn printed_in_pieces(program: &Path, pieces: &[&[u8]]) -> String {
-    let mut child = start(program);
-    let mut input = child.stdin.take().expect("a pipe");
+/// Writes the pieces with a pause between them. The program may stop reading a
+/// card that is too long, so that a write fails.
+fn feed(mut input: ChildStdin, pieces: &[&[u8]]) {
     for (index, piece) in pieces.iter().enumerate() {
         if index > 0 {
-            std::thread::sleep(Duration::from_millis(2));
+            thread::sleep(Duration::from_millis(2));
         }
         let _ = input.write_all(piece);
     }
-    drop(input);
-    let output = child.wait_with_output().expect("an end");
+}
+
+/// What the program prints for a card that comes in these pieces.
+fn printed_in_pieces(program: &Path, pieces: &[&[u8]]) -> String {
+    let mut child = start(program);
+    let input = child.stdin.take().expect("a pipe");
+    let output = thread::scope(|scope| {
+        scope.spawn(|| feed(input, pieces));
+        child.wait_with_output().expect("an end")
+    });
     assert!(output.status.code().is_some(), "{}: {}", program.display(), output.status);
     String::from_utf8(output.stdout).expect("text")
 }
