@@ -1,23 +1,45 @@
-//! Speed of the archive's two runs and of this engine's fast run, on the same
-//! programs and schedules, one after the other in turns.
+//! Speed of the archive's two runs and of this engine's, on the same programs
+//! and schedules.
 //!
-//!     cargo run --release --offline --features engine --bin bench
-//!
-//! Prints the tables of docs/PERFORMANCE.md.
+//! The engines take turns, so that other work on the machine hits all alike,
+//! and the best time of each is given. What counts are the ratios of one line.
+//! Prints one Markdown table for docs/PERFORMANCE.md; progress goes to standard
+//! error.
 
 use compare::card::reset_sheets;
 use compare::cases::Case;
 use compare::check::{self, Engine, BY_CACHE};
 use compare::engine::Archive;
+use compare::image::{self, Image};
 use compare::isa::{self, Insn, Kind};
+use compare::runs::SCHEDULE_MOST;
 use compare::state::{place, SHEET_WORDS};
 use std::hint::black_box;
 use std::time::{Duration, Instant};
 
-/// Turns: each engine runs once in a turn. Other work on the machine only ever
-/// adds, so the best time of all turns is given.
-const TURNS: usize = 60;
-const ENTRIES: usize = 65_536;
+const COMMAND: &str = "cargo run --release --offline --features engine --bin bench";
+/// In each turn every engine runs once.
+const TURNS: usize = 40;
+const SIZES: [usize; 3] = [16, 64, 1_024];
+const CORES: [usize; 2] = [1, 4];
+
+/// What one line times: calls that start on a case and go on with what the last
+/// left, with the cache empty at first or as full as it can be.
+struct Work {
+    name: String,
+    cores: usize,
+    empty: Case,
+    full_cache: Vec<u64>,
+    schedules: Vec<Vec<u8>>,
+    unit: Unit,
+}
+
+/// What the times are divided by.
+enum Unit {
+    /// Instructions, or entries of halted cores.
+    Entries(usize),
+    MemoryWords(usize),
+}
 
 fn word(kind: Kind, d: u8, a: u8, b: u8, imm: i32) -> u32 {
     let word = isa::encode(Insn { kind, d, a, b, imm: imm as u32 }.entry());
@@ -54,19 +76,24 @@ fn long_loop(bytes: usize) -> Vec<u32> {
         words.push(word(Kind::Bf, 0, 0, 0, 8));
         words.push(word(Kind::Xor, 7, 6, 5, 0));
     }
-    // l.j keeps 26 bits: far enough for every memory.
-    let back = -4 * words.len() as i32;
-    words.push(word(Kind::J, 0, 0, 0, back));
-    words.push(word(Kind::Nop, 0, 0, 0, 0));
+    jump_back(&mut words, word(Kind::Nop, 0, 0, 0, 0));
     words
 }
 
-/// Cores in turn on one program, each with its own part of memory's upper half.
+/// A jump to the first word, and its slot.
+fn jump_back(words: &mut Vec<u32>, slot: u32) {
+    // l.j keeps 26 bits: far enough for every memory.
+    let back = -4 * words.len() as i32;
+    words.push(word(Kind::J, 0, 0, 0, back));
+    words.push(slot);
+}
+
+/// Cores on one program, each with its own part of memory's upper half.
 fn case(words: &[u32], bytes: usize, cores: usize) -> Case {
     let mut case = Case {
         memory: vec![0; bytes],
         sheets: reset_sheets(cores, 0),
-        schedule: (0..ENTRIES).map(|entry| (entry % cores) as u8).collect(),
+        schedule: vec![],
         table: vec![0; bytes / 4],
     };
     for (index, &word) in words.iter().enumerate() {
@@ -80,161 +107,235 @@ fn case(words: &[u32], bytes: usize, cores: usize) -> Case {
     case
 }
 
-/// What is timed: one run of an engine.
-struct Runner {
-    engine: &'static dyn Engine,
-    fast: bool,
+/// So many entries, the cores in turn.
+fn turns(cores: usize, entries: usize) -> Vec<u8> {
+    (0..entries).map(|entry| (entry % cores) as u8).collect()
 }
 
-const PLAIN: Runner = Runner { engine: &Archive, fast: false };
-const FAST: Runner = Runner { engine: &Archive, fast: true };
-const RUST: Runner = Runner { engine: &BY_CACHE, fast: true };
+/// One call by this engine and by the archive, which must agree; the count of
+/// instructions and what is left.
+fn agreed(case: &Case, schedule: &[u8]) -> (usize, Case) {
+    let case = Case { schedule: schedule.to_vec(), ..case.clone() };
+    let left = check::after_fast(&BY_CACHE, &case);
+    assert_eq!(check::after_fast(&Archive, &case), left);
+    assert_eq!(check::after_plain(&Archive, &case), check::after_plain(&BY_CACHE, &case));
+    (left.answer.executed as usize, left.case)
+}
 
-impl Runner {
-    /// The time of one call on a copy of a case; making the copy is not in it.
-    fn time(&self, case: &Case) -> Duration {
-        let mut case = case.clone();
-        let start = Instant::now();
-        let answer = if self.fast {
-            self.engine.fast_run(
-                &mut case.memory,
-                &mut case.sheets,
-                &case.schedule,
-                &mut case.table,
-            )
+/// One call of the greatest length on a program that never halts. Stores do not
+/// touch code, so that the cache it leaves fits the memory before it too.
+fn endless(name: &str, words: &[u32], kib: usize, cores: usize) -> Work {
+    let empty = case(words, kib * 1_024, cores);
+    let schedule = turns(cores, SCHEDULE_MOST);
+    let (executed, left) = agreed(&empty, &schedule);
+    assert_eq!(executed, SCHEDULE_MOST, "{name}");
+    Work {
+        name: name.to_string(),
+        cores,
+        empty,
+        full_cache: left.table,
+        schedules: vec![schedule],
+        unit: Unit::Entries(executed),
+    }
+}
+
+fn is_running(case: &Case) -> bool {
+    case.sheets.chunks(SHEET_WORDS).any(|sheet| sheet[place::MODE] != 0)
+}
+
+/// The shortest schedule of turns after which every core has halted, which the
+/// longest one does.
+fn up_to_the_end(case: &Case) -> Vec<u8> {
+    let (mut low, mut high) = (0, SCHEDULE_MOST);
+    while low < high {
+        let middle = (low + high) / 2;
+        if is_running(&agreed(case, &turns(case.cores(), middle)).1) {
+            low = middle + 1;
         } else {
-            self.engine.plain_run(&mut case.memory, &mut case.sheets, &case.schedule)
-        };
-        let time = start.elapsed();
-        black_box(&case);
-        assert_eq!(answer >> 60, 0, "refused");
-        time
-    }
-}
-
-/// The best time of each of the runners, in turns.
-fn best(runs: &[(&Runner, &Case)]) -> Vec<f64> {
-    let mut best = vec![Duration::MAX; runs.len()];
-    for _ in 0..TURNS {
-        for (best, (runner, case)) in best.iter_mut().zip(runs) {
-            *best = (*best).min(runner.time(case));
+            high = middle;
         }
     }
-    best.iter().map(|time| time.as_nanos() as f64).collect()
+    turns(case.cores(), high)
 }
 
-fn rate(nanoseconds: f64) -> String {
-    format!("{:.0}", ENTRIES as f64 * 1e3 / nanoseconds)
-}
-
-/// The case with the table that a run of it leaves: the same instructions, each
-/// of them in the cache. Stores do not touch code, so the table stays right.
-fn warmed(case: &Case) -> Case {
-    let left = check::after_fast(&BY_CACHE, case);
-    assert_eq!(check::after_fast(&Archive, case), left);
-    assert_eq!(left.answer.executed as usize, ENTRIES);
-    Case { table: left.case.table, ..case.clone() }
-}
-
-/// One row: the archive's runs, this engine's, and the ratios of one line.
-fn row(name: &str, case: &Case) {
-    let warm = warmed(case);
-    let times =
-        best(&[(&PLAIN, case), (&FAST, case), (&FAST, &warm), (&RUST, case), (&RUST, &warm)]);
-    let rates: Vec<String> = times.iter().map(|&time| rate(time)).collect();
-    println!(
-        "| {name} | {} | {:.2} | {:.2} | {:.2} |",
-        rates.join(" | "),
-        times[0] / times[2],
-        times[3] / times[1],
-        times[4] / times[2],
-    );
-}
-
-fn rates() {
-    println!("Millions of instructions a second, {ENTRIES} to a call:\n");
-    println!("| program, memory, cores | plain | fast, empty cache | fast, warm | Rust, empty | Rust, warm | fast warm / plain | fast / Rust, empty | fast / Rust, warm |");
-    println!("|---|---|---|---|---|---|---|---|---|");
-    for kib in [16, 64, 1_024] {
-        for cores in [1, 4] {
-            let bytes = kib * 1_024;
-            let small = case(&small_loop(), bytes, cores);
-            row(&format!("small loop, {kib} KiB, {cores}"), &small);
-            let long = case(&long_loop(bytes), bytes, cores);
-            row(&format!("long loop, {kib} KiB, {cores}"), &long);
+/// A compiled program from its start to its end, by as many calls as it takes.
+fn compiled(name: &str, cores: usize) -> Work {
+    let empty = Image::load(&image::folder(), name).case(image::BYTES, cores);
+    let (mut now, mut schedules, mut instructions) = (empty.clone(), vec![], 0);
+    while is_running(&now) {
+        let mut schedule = turns(cores, SCHEDULE_MOST);
+        if !is_running(&agreed(&now, &schedule).1) {
+            schedule = up_to_the_end(&now);
         }
+        let (executed, left) = agreed(&now, &schedule);
+        (now, instructions) = (left, instructions + executed);
+        schedules.push(schedule);
+    }
+    Work {
+        name: format!("{name}.c"),
+        cores,
+        empty,
+        full_cache: now.table,
+        schedules,
+        unit: Unit::Entries(instructions),
     }
 }
 
 /// One instruction over and over in 16 KiB, one core, with a jump at the end.
-fn kinds() {
-    println!("\nNanoseconds for one instruction, warm cache, 16 KiB, 1 core:\n");
-    println!("| instruction | plain | fast | Rust, fast |");
-    println!("|---|---|---|---|");
-    let words = [
-        ("l.nop", word(Kind::Nop, 0, 0, 0, 0)),
-        ("l.addi", word(Kind::Addi, 5, 5, 0, 1)),
-        ("l.add", word(Kind::Add, 6, 6, 5, 0)),
-        ("l.sfltui", word(Kind::Sfltui, 0, 6, 0, 9)),
-        ("l.sfltu", word(Kind::Sfltu, 0, 6, 5, 0)),
-        ("l.lwz", word(Kind::Lwz, 5, 1, 0, 0)),
-        ("l.sw", word(Kind::Sw, 0, 1, 5, 0)),
-        ("p.cflush", word(Kind::Cflush, 0, 1, 0, 0)),
-    ];
-    for (name, word_of_kind) in words {
-        let mut words = vec![word_of_kind; 2_000];
-        words.push(word(Kind::J, 0, 0, 0, -8_000));
-        words.push(word_of_kind);
-        let case = warmed(&case(&words, 16_384, 1));
-        let times = best(&[(&PLAIN, &case), (&FAST, &case), (&RUST, &case)]);
-        let times: Vec<String> =
-            times.iter().map(|time| format!("{:.1}", time / ENTRIES as f64)).collect();
-        println!("| {name} | {} |", times.join(" | "));
+fn single(name: &str, word_of_kind: u32) -> Work {
+    let mut words = vec![word_of_kind; 2_000];
+    jump_back(&mut words, word_of_kind);
+    endless(name, &words, 16, 1)
+}
+
+/// The entries of a core that does not run.
+fn halted() -> Work {
+    let mut empty = case(&small_loop(), 16_384, 1);
+    empty.sheets[place::MODE] = 0;
+    Work {
+        name: "halted core".to_string(),
+        cores: 1,
+        full_cache: all_decoded(&empty),
+        empty,
+        schedules: vec![turns(1, SCHEDULE_MOST)],
+        unit: Unit::Entries(SCHEDULE_MOST),
     }
 }
 
-/// What a call costs before its first instruction.
-fn checks() {
-    println!("\nMicroseconds for a call with an empty schedule:\n");
-    println!("| memory, cores | plain | fast, empty cache | fast, full cache | Rust, empty | Rust, full |");
-    println!("|---|---|---|---|---|---|");
-    for kib in [16, 64, 1_024] {
-        for cores in [1, 4] {
-            let bytes = kib * 1_024;
-            let empty = Case { schedule: vec![], ..case(&long_loop(bytes), bytes, cores) };
-            let mut full = empty.clone();
-            for index in 0..full.table.len() {
-                full.table[index] = isa::decode(full.word(index));
-            }
-            let times = best(&[
-                (&PLAIN, &empty),
-                (&FAST, &empty),
-                (&FAST, &full),
-                (&RUST, &empty),
-                (&RUST, &full),
-            ]);
-            let times: Vec<String> =
-                times.iter().map(|time| format!("{:.1}", time / 1e3)).collect();
-            println!("| {kib} KiB, {cores} | {} |", times.join(" | "));
+fn all_decoded(case: &Case) -> Vec<u64> {
+    (0..case.table.len()).map(|index| isa::decode(case.word(index))).collect()
+}
+
+/// What a call does before its first instruction: an empty schedule.
+fn checks(kib: usize, cores: usize) -> Work {
+    let empty = case(&long_loop(kib * 1_024), kib * 1_024, cores);
+    Work {
+        name: "checks alone".to_string(),
+        cores,
+        full_cache: all_decoded(&empty),
+        unit: Unit::MemoryWords(empty.table.len()),
+        empty,
+        schedules: vec![vec![]],
+    }
+}
+
+fn all_work() -> Vec<Work> {
+    let mut work = Vec::new();
+    for kib in SIZES {
+        for cores in CORES {
+            work.push(endless("small loop", &small_loop(), kib, cores));
+            work.push(endless("long loop", &long_loop(kib * 1_024), kib, cores));
         }
     }
-    let mut halted = case(&small_loop(), 16_384, 1);
-    halted.sheets[place::MODE] = 0;
-    let times = best(&[(&PLAIN, &halted), (&FAST, &halted), (&RUST, &halted)]);
-    let times: Vec<String> =
-        times.iter().map(|time| format!("{:.2}", time / ENTRIES as f64)).collect();
-    println!(
-        "\nNanoseconds for an entry of a halted core, its two checks included: plain {}, fast {}, Rust {}",
-        times[0], times[1], times[2]
-    );
+    work.extend(["sieve", "crc32", "sort"].map(|name| compiled(name, 1)));
+    work.extend(CORES.map(|cores| compiled("cores", cores)));
+    work.extend([
+        single("l.nop only", word(Kind::Nop, 0, 0, 0, 0)),
+        single("l.addi only", word(Kind::Addi, 5, 5, 0, 1)),
+        single("l.add only", word(Kind::Add, 6, 6, 5, 0)),
+        single("l.sfltui only", word(Kind::Sfltui, 0, 6, 0, 9)),
+        single("l.sfltu only", word(Kind::Sfltu, 0, 6, 5, 0)),
+        single("l.lwz only", word(Kind::Lwz, 5, 1, 0, 0)),
+        single("l.sw only", word(Kind::Sw, 0, 1, 5, 0)),
+        single("p.cflush only", word(Kind::Cflush, 0, 1, 0, 0)),
+        halted(),
+    ]);
+    for kib in SIZES {
+        work.extend(CORES.map(|cores| checks(kib, cores)));
+    }
+    work
+}
+
+/// One run of an engine, the fast one with its cache empty or full.
+#[derive(Clone, Copy)]
+enum Run {
+    Plain,
+    Fast { full: bool },
+}
+
+/// The columns that are timed. This engine is the same design in Rust: an
+/// interpreter on structs, its fast run with the same decode cache.
+const RUNS: [(&dyn Engine, Run); 6] = [
+    (&Archive, Run::Plain),
+    (&Archive, Run::Fast { full: false }),
+    (&Archive, Run::Fast { full: true }),
+    (&BY_CACHE, Run::Plain),
+    (&BY_CACHE, Run::Fast { full: false }),
+    (&BY_CACHE, Run::Fast { full: true }),
+];
+
+/// The time of all calls on a copy of the case; making the copy is not in it.
+fn time(work: &Work, engine: &dyn Engine, run: Run) -> Duration {
+    let mut case = work.empty.clone();
+    if let Run::Fast { full: true } = run {
+        case.table.copy_from_slice(&work.full_cache);
+    }
+    let Case { memory, sheets, table, .. } = &mut case;
+    let start = Instant::now();
+    for schedule in &work.schedules {
+        let answer = match run {
+            Run::Plain => engine.plain_run(memory, sheets, schedule),
+            Run::Fast { .. } => engine.fast_run(memory, sheets, schedule, table),
+        };
+        assert_eq!(answer >> 60, 0, "refused");
+    }
+    let time = start.elapsed();
+    black_box(&case);
+    time
+}
+
+/// The best time of each column in nanoseconds, the engines in turns.
+fn best_times(work: &Work) -> [f64; 6] {
+    let mut best = [Duration::MAX; 6];
+    for _ in 0..TURNS {
+        for (best, (engine, run)) in best.iter_mut().zip(RUNS) {
+            *best = (*best).min(time(work, engine, run));
+        }
+    }
+    best.map(|time| time.as_nanos() as f64)
+}
+
+/// The line's ratios: more than 1 is in favour of the first.
+fn ratios(times: &[f64; 6]) -> [f64; 4] {
+    let [plain, empty, full, rust_plain, rust_empty, rust_full] = *times;
+    [plain / full, rust_plain / plain, rust_empty / empty, rust_full / full]
+}
+
+const HEADING: &str = "\
+| program | memory | cores | unit | plain | fast, empty cache | fast, full cache \
+| Rust plain | Rust fast, empty | Rust fast, full \
+| fast / plain | plain / Rust | fast / Rust, empty | fast / Rust, full |
+|---|---|---|---|---|---|---|---|---|---|---|---|---|---|";
+
+fn print_line(work: &Work, times: &[f64; 6]) {
+    let (unit, numbers) = match work.unit {
+        Unit::Entries(count) => {
+            ("M/s", times.map(|time| format!("{:.0}", count as f64 * 1e3 / time)))
+        }
+        Unit::MemoryWords(count) => {
+            ("ns/word", times.map(|time| format!("{:.3}", time / count as f64)))
+        }
+    };
+    let mut ratios = ratios(times).map(|ratio| format!("{ratio:.2}"));
+    if let Unit::MemoryWords(_) = work.unit {
+        // The plain run has no cache to check.
+        ratios[0] = "–".to_string();
+    }
+    let kib = work.empty.memory.len() / 1_024;
+    let (numbers, ratios) = (numbers.join(" | "), ratios.join(" | "));
+    println!("| {} | {kib} KiB | {} | {unit} | {numbers} | {ratios} |", work.name, work.cores);
 }
 
 fn main() {
-    let load = std::fs::read_to_string("/proc/loadavg").unwrap_or_default();
-    println!("Load before: {}", load.trim());
-    rates();
-    kinds();
-    checks();
-    let load = std::fs::read_to_string("/proc/loadavg").unwrap_or_default();
-    println!("\nLoad after: {}", load.trim());
+    println!("`{COMMAND}` in `compare`. M/s: millions of entries a second, calls and their checks included;");
+    println!("ns/word: nanoseconds for each word of memory. Best of {TURNS} turns. Ratios are of speeds.\n");
+    println!("{HEADING}");
+    eprintln!("bench: making the programs, with every engine's answers compared");
+    let all = all_work();
+    for (index, work) in all.iter().enumerate() {
+        let kib = work.empty.memory.len() / 1_024;
+        let (name, cores) = (&work.name, work.cores);
+        eprintln!("bench: {} of {}: {name}, {kib} KiB, cores: {cores}", index + 1, all.len());
+        print_line(work, &best_times(work));
+    }
 }
