@@ -255,7 +255,7 @@ impl Xorshift {
 }
 
 fn sieve(ran: &Ran) {
-    let is_prime = |n: &u32| (2..).take_while(|d| d * d <= *n).all(|d| n % d != 0);
+    let is_prime = |n: &u32| (2..).take_while(|d| d * d <= *n).all(|d| !n.is_multiple_of(d));
     assert_eq!(ran.result(0), (2..8_192).filter(is_prime).count() as u32);
 }
 
@@ -266,7 +266,7 @@ fn crc_of(bytes: &[u8]) -> u32 {
         rest ^= u32::from(byte.reverse_bits()) << 24;
         for _ in 0..8 {
             let carry = rest >> 31;
-            rest = rest << 1 ^ carry * 0x04c1_1db7;
+            rest = (rest << 1) ^ (carry * 0x04c1_1db7);
         }
     }
     !rest.reverse_bits()

@@ -18,7 +18,7 @@ use std::hint::black_box;
 use std::time::{Duration, Instant};
 
 const COMMAND: &str = "cargo run --release --offline --features engine --bin bench";
-/// In each turn every engine runs once.
+/// In each turn every engine runs every program once.
 const TURNS: usize = 40;
 const SIZES: [usize; 3] = [16, 64, 1_024];
 const CORES: [usize; 2] = [1, 4];
@@ -284,15 +284,24 @@ fn time(work: &Work, engine: &dyn Engine, run: Run) -> Duration {
     time
 }
 
-/// The best time of each column in nanoseconds, the engines in turns.
-fn best_times(work: &Work) -> [f64; 6] {
-    let mut best = [Duration::MAX; 6];
-    for _ in 0..TURNS {
-        for (best, (engine, run)) in best.iter_mut().zip(RUNS) {
-            *best = (*best).min(time(work, engine, run));
+/// One turn: every column of a line once, each best time kept.
+fn turn(work: &Work, best: &mut [Duration; 6]) {
+    for (best, (engine, run)) in best.iter_mut().zip(RUNS) {
+        *best = (*best).min(time(work, engine, run));
+    }
+}
+
+/// The best times of every line. A turn goes through all lines, so that those
+/// of one line are spread over the whole time.
+fn best_times(all: &[Work]) -> Vec<[Duration; 6]> {
+    let mut best = vec![[Duration::MAX; 6]; all.len()];
+    for number in 1..=TURNS {
+        eprintln!("bench: turn {number} of {TURNS}");
+        for (work, best) in all.iter().zip(&mut best) {
+            turn(work, best);
         }
     }
-    best.map(|time| time.as_nanos() as f64)
+    best
 }
 
 /// The line's ratios: more than 1 is in favour of the first.
@@ -327,15 +336,13 @@ fn print_line(work: &Work, times: &[f64; 6]) {
 }
 
 fn main() {
+    eprintln!("bench: making the programs; the engines must agree on each");
+    let all = all_work();
+    let best = best_times(&all);
     println!("`{COMMAND}` in `compare`. M/s: millions of entries a second, calls and their checks included;");
     println!("ns/word: nanoseconds for each word of memory. Best of {TURNS} turns. Ratios are of speeds.\n");
     println!("{HEADING}");
-    eprintln!("bench: making the programs, with every engine's answers compared");
-    let all = all_work();
-    for (index, work) in all.iter().enumerate() {
-        let kib = work.empty.memory.len() / 1_024;
-        let (name, cores) = (&work.name, work.cores);
-        eprintln!("bench: {} of {}: {name}, {kib} KiB, cores: {cores}", index + 1, all.len());
-        print_line(work, &best_times(work));
+    for (work, best) in all.iter().zip(best) {
+        print_line(work, &best.map(|time| time.as_nanos() as f64));
     }
 }
