@@ -3,9 +3,11 @@ ghost use mathlib.Core.Path.{_≡_};
 ghost use lib.ListN.{length};
 ghost use Rattle.memory.specs.Memory.{Width};
 ghost use Rattle.effect.specs.Effect.{effectiveAddress, load as loadOf, loadLinked, storing as storingOf, store as storeOf, linked as linkedOf, storeConditional, touch as touchOf, noLink, noStore};
+ghost use Rattle.effect.specs.Action.{effectBy, saves};
 ghost use Rattle.bits.specs.Choice.{if_then_else_};
 use crate::completed;
 use crate::raised;
+use crate::types::Action;
 use crate::types::Effect;
 use crate::types::Inputs;
 use crate::types::Link;
@@ -19,21 +21,21 @@ fn address(x: Inputs) -> u32
     arith::address_add(x.a, x.immediate)
 }
 
-pub fn load(x: Inputs, mem: &[u8], width: u32, signed: bool) -> Effect
+pub fn load(x: Inputs, mem: &[u8], width: u32, signed: bool) -> Action
     requires { ⌜ Width width ⌝ }
-    ensures { λ r. ⌜ r ≡ loadOf x (now (mem .entry)) width signed ⌝ }
+    ensures { λ r. ⌜ effectBy x r ≡ loadOf x (now (mem .entry)) width signed ⌝ }
 {
     let at = address(x);
     match memory::test(mem.len(), at, width) {
         Access::Granted => completed::write(x, memory::load_extended(mem, at, width, signed)),
-        Access::Misaligned => raised::fault(x, Cause::Alignment, at),
-        Access::BusError => raised::fault(x, Cause::Bus, at),
+        Access::Misaligned => Action::Whole(raised::fault(x, Cause::Alignment, at)),
+        Access::BusError => Action::Whole(raised::fault(x, Cause::Bus, at)),
     }
 }
 
 // l.lwa.
-pub fn load_linked(x: Inputs, mem: &[u8]) -> Effect
-    ensures { λ r. ⌜ r ≡ loadLinked x (now (mem .entry)) ⌝ }
+pub fn load_linked(x: Inputs, mem: &[u8]) -> Action
+    ensures { λ r. ⌜ effectBy x r ≡ loadLinked x (now (mem .entry)) ⌝ }
 {
     let at = address(x);
     match memory::test(mem.len(), at, 4) {
@@ -43,7 +45,7 @@ pub fn load_linked(x: Inputs, mem: &[u8]) -> Effect
                 address: at,
             };
             let value = memory::load(mem, at, 4);
-            completed::complete(
+            Action::Whole(completed::complete(
                 x.d,
                 value,
                 x.sr,
@@ -51,10 +53,10 @@ pub fn load_linked(x: Inputs, mem: &[u8]) -> Effect
                 link,
                 3,
                 completed::no_store(),
-            )
+            ))
         }
-        Access::Misaligned => raised::fault(x, Cause::Alignment, at),
-        Access::BusError => raised::fault(x, Cause::Bus, at),
+        Access::Misaligned => Action::Whole(raised::fault(x, Cause::Alignment, at)),
+        Access::BusError => Action::Whole(raised::fault(x, Cause::Bus, at)),
     }
 }
 
@@ -68,18 +70,23 @@ fn storing(x: Inputs, width: u32) -> Store
     }
 }
 
-pub fn store(x: Inputs, len: usize, width: u32) -> Effect
+// The effect of a store.
+pub fn saved(x: Inputs, store: Store) -> Effect
+    ensures { λ r. ⌜ r ≡ saves x store ⌝ }
+{
+    let link = x.link;
+    completed::complete(0, 0, x.sr, completed::onward(x), link, 3, store)
+}
+
+pub fn store(x: Inputs, len: usize, width: u32) -> Action
     requires { ⌜ Width width ⌝ }
-    ensures { λ r. ⌜ r ≡ storeOf x len width ⌝ }
+    ensures { λ r. ⌜ effectBy x r ≡ storeOf x len width ⌝ }
 {
     let at = address(x);
     match memory::test(len, at, width) {
-        Access::Granted => {
-            let link = x.link;
-            completed::complete(0, 0, x.sr, completed::onward(x), link, 3, storing(x, width))
-        }
-        Access::Misaligned => raised::fault(x, Cause::Alignment, at),
-        Access::BusError => raised::fault(x, Cause::Bus, at),
+        Access::Granted => Action::Save(storing(x, width)),
+        Access::Misaligned => Action::Whole(raised::fault(x, Cause::Alignment, at)),
+        Access::BusError => Action::Whole(raised::fault(x, Cause::Bus, at)),
     }
 }
 
@@ -114,14 +121,14 @@ fn conditional(x: Inputs, t: bool) -> Store
 }
 
 // l.swa.
-pub fn store_conditional(x: Inputs, len: usize) -> Effect
-    ensures { λ r. ⌜ r ≡ storeConditional x len ⌝ }
+pub fn store_conditional(x: Inputs, len: usize) -> Action
+    ensures { λ r. ⌜ effectBy x r ≡ storeConditional x len ⌝ }
 {
     let at = address(x);
     match memory::test(len, at, 4) {
         Access::Granted => {
             let t = linked(x);
-            completed::complete(
+            Action::Whole(completed::complete(
                 0,
                 0,
                 arith::set_flag(x.sr, t),
@@ -129,21 +136,21 @@ pub fn store_conditional(x: Inputs, len: usize) -> Effect
                 no_link(),
                 3,
                 conditional(x, t),
-            )
+            ))
         }
-        Access::Misaligned => raised::fault(x, Cause::Alignment, at),
-        Access::BusError => raised::fault(x, Cause::Bus, at),
+        Access::Misaligned => Action::Whole(raised::fault(x, Cause::Alignment, at)),
+        Access::BusError => Action::Whole(raised::fault(x, Cause::Bus, at)),
     }
 }
 
 // p.*.
-pub fn touch(x: Inputs, len: usize) -> Effect
-    ensures { λ r. ⌜ r ≡ touchOf x len ⌝ }
+pub fn touch(x: Inputs, len: usize) -> Action
+    ensures { λ r. ⌜ effectBy x r ≡ touchOf x len ⌝ }
 {
     let at = address(x);
     match memory::test(len, at, 1) {
         Access::Granted => completed::nothing(x),
-        Access::Misaligned => raised::fault(x, Cause::Alignment, at),
-        Access::BusError => raised::fault(x, Cause::Bus, at),
+        Access::Misaligned => Action::Whole(raised::fault(x, Cause::Alignment, at)),
+        Access::BusError => Action::Whole(raised::fault(x, Cause::Bus, at)),
     }
 }

@@ -2,12 +2,16 @@
 ghost use mathlib.Core.Path.{_≡_};
 ghost use Rattle.effect.specs.Effect.{onward as onwardOf, advances as advancesOf, writes as writesOf, nothing as nothingOf, setsFlag, nop as nopOf, inSlot, noStore};
 ghost use Rattle.effect.specs.Effect.{completed as completedOf};
+ghost use Rattle.effect.specs.Action.{effectBy};
+ghost use Rattle.effect.specs.declared.types.Inputs.{Inputs};
+use crate::types::Action;
 use crate::types::Effect;
 use crate::types::Flow;
 use crate::types::Inputs;
 use crate::types::Link;
 use crate::types::Outcome;
 use crate::types::Store;
+use crate::types::Written;
 
 // The instruction is in a delay slot.
 pub fn in_slot(x: Inputs) -> bool
@@ -68,38 +72,45 @@ pub fn onward(x: Inputs) -> Flow
     }
 }
 
-pub fn advance(x: Inputs, place: u32, value: u32, sr: u32) -> Effect
-    ensures { λ r. ⌜ r ≡ advancesOf x place value sr ⌝ }
+// The effect of an instruction that goes on.
+pub fn advanced(x: Inputs, w: Written) -> Effect
+    ensures { λ r. ⌜ r ≡ advancesOf x (w .place) (w .value) (w .sr) ⌝ }
 {
     let link = x.link;
-    complete(place, value, sr, onward(x), link, 3, no_store())
+    complete(w.place, w.value, w.sr, onward(x), link, 3, no_store())
 }
 
-pub fn write(x: Inputs, value: u32) -> Effect
-    ensures { λ r. ⌜ r ≡ writesOf x value ⌝ }
+pub fn advance(place: u32, value: u32, sr: u32) -> Action
+    ensures { λ r. ⌜ ((x : Inputs) → effectBy x r ≡ advancesOf x place value sr) ⌝ }
 {
-    advance(x, x.d, value, x.sr)
+    Action::Advance(Written { place, value, sr })
 }
 
-pub fn nothing(x: Inputs) -> Effect
-    ensures { λ r. ⌜ r ≡ nothingOf x ⌝ }
+pub fn write(x: Inputs, value: u32) -> Action
+    ensures { λ r. ⌜ effectBy x r ≡ writesOf x value ⌝ }
 {
-    advance(x, 0, 0, x.sr)
+    advance(x.d, value, x.sr)
 }
 
-pub fn set_flag(x: Inputs, t: bool) -> Effect
-    ensures { λ r. ⌜ r ≡ setsFlag x t ⌝ }
+pub fn nothing(x: Inputs) -> Action
+    ensures { λ r. ⌜ effectBy x r ≡ nothingOf x ⌝ }
 {
-    advance(x, 0, 0, arith::set_flag(x.sr, t))
+    advance(0, 0, x.sr)
+}
+
+pub fn set_flag(x: Inputs, t: bool) -> Action
+    ensures { λ r. ⌜ effectBy x r ≡ setsFlag x t ⌝ }
+{
+    advance(0, 0, arith::set_flag(x.sr, t))
 }
 
 // l.nop 1 halts its core.
-pub fn nop(x: Inputs) -> Effect
-    ensures { λ r. ⌜ r ≡ nopOf x ⌝ }
+pub fn nop(x: Inputs) -> Action
+    ensures { λ r. ⌜ effectBy x r ≡ nopOf x ⌝ }
 {
     if x.immediate == 1 {
         let link = x.link;
-        return complete(0, 0, x.sr, onward(x), link, 0, no_store());
+        return Action::Whole(complete(0, 0, x.sr, onward(x), link, 0, no_store()));
     }
     nothing(x)
 }

@@ -1,33 +1,47 @@
 // Jumps, branches and the return from an exception: illegal in a delay slot.
 ghost use mathlib.Core.Path.{_≡_};
 ghost use Rattle.effect.specs.Effect.{jumping as jumpingOf, jump as jumpOf, relative as relativeOf, afterSlot, branch as branchOf, registerJump, returns};
+ghost use Rattle.effect.specs.Action.{effectBy};
+ghost use Rattle.effect.specs.declared.types.Inputs.{Inputs};
 use crate::completed;
 use crate::raised;
+use crate::types::Action;
 use crate::types::Effect;
 use crate::types::Flow;
 use crate::types::Inputs;
+use crate::types::Jumped;
 use isa::vectors::Cause;
 
-// Goes to `to` after the slot, with `value` to `place`.
-fn jumping(x: Inputs, place: u32, value: u32, to: u32) -> Effect
-    ensures { λ r. ⌜ r ≡ jumpingOf x place value to ⌝ }
+// The effect of a jump: to its target after the slot.
+pub fn jumped(x: Inputs, j: Jumped) -> Effect
+    ensures { λ r. ⌜ r ≡ jumpingOf x (j .place) (j .value) (j .target) ⌝ }
 {
     let flow = Flow {
         pc: arith::address_add(x.flow.pc, 4),
         delay: 1,
-        target: to,
+        target: j.target,
     };
     let link = x.link;
-    completed::complete(place, value, x.sr, flow, link, 3, completed::no_store())
+    completed::complete(j.place, j.value, x.sr, flow, link, 3, completed::no_store())
 }
 
-pub fn jump(x: Inputs, place: u32, value: u32, to: u32) -> Effect
-    ensures { λ r. ⌜ r ≡ jumpOf x place value to ⌝ }
+fn jumping(place: u32, value: u32, target: u32) -> Action
+    ensures { λ r. ⌜ ((x : Inputs) → effectBy x r ≡ jumpingOf x place value target) ⌝ }
+{
+    Action::Jump(Jumped {
+        place,
+        value,
+        target,
+    })
+}
+
+pub fn jump(x: Inputs, place: u32, value: u32, to: u32) -> Action
+    ensures { λ r. ⌜ effectBy x r ≡ jumpOf x place value to ⌝ }
 {
     if completed::in_slot(x) {
         return raised::illegal(x);
     }
-    jumping(x, place, value, to)
+    jumping(place, value, to)
 }
 
 // The instruction's address plus its immediate.
@@ -44,8 +58,8 @@ pub fn after_slot(x: Inputs) -> u32
     arith::address_add(x.flow.pc, 8)
 }
 
-pub fn branch(x: Inputs, taken: bool) -> Effect
-    ensures { λ r. ⌜ r ≡ branchOf x taken ⌝ }
+pub fn branch(x: Inputs, taken: bool) -> Action
+    ensures { λ r. ⌜ effectBy x r ≡ branchOf x taken ⌝ }
 {
     if taken {
         return jump(x, 0, 0, relative(x));
@@ -54,20 +68,20 @@ pub fn branch(x: Inputs, taken: bool) -> Effect
 }
 
 // To the address in rB, which must be a multiple of 4.
-pub fn register_jump(x: Inputs, place: u32, value: u32) -> Effect
-    ensures { λ r. ⌜ r ≡ registerJump x place value ⌝ }
+pub fn register_jump(x: Inputs, place: u32, value: u32) -> Action
+    ensures { λ r. ⌜ effectBy x r ≡ registerJump x place value ⌝ }
 {
     if completed::in_slot(x) {
         return raised::illegal(x);
     }
     if 0 < x.b % 4 {
-        return raised::fault(x, Cause::Alignment, x.b);
+        return Action::Whole(raised::fault(x, Cause::Alignment, x.b));
     }
-    jumping(x, place, value, x.b)
+    jumping(place, value, x.b)
 }
 
-pub fn return_from_exception(x: Inputs) -> Effect
-    ensures { λ r. ⌜ r ≡ returns x ⌝ }
+pub fn return_from_exception(x: Inputs) -> Action
+    ensures { λ r. ⌜ effectBy x r ≡ returns x ⌝ }
 {
     if completed::in_slot(x) {
         return raised::illegal(x);
@@ -78,5 +92,5 @@ pub fn return_from_exception(x: Inputs) -> Effect
         target: 0,
     };
     let link = x.link;
-    completed::complete(0, 0, x.esr, flow, link, 3, completed::no_store())
+    Action::Whole(completed::complete(0, 0, x.esr, flow, link, 3, completed::no_store()))
 }

@@ -1,9 +1,11 @@
 // Instructions that raise an exception.
 ghost use mathlib.Core.Path.{_≡_};
 ghost use Rattle.effect.specs.Effect.{restart as restartOf, raises, faults, illegal as illegalOf, trap as trapOf, syscall as syscallOf, inSlot};
+ghost use Rattle.effect.specs.Action.{effectBy};
 ghost use Prim.Native.Nat.{_<_};
 ghost use Rattle.bits.specs.Word.{bit};
 use crate::completed;
+use crate::types::Action;
 use crate::types::Effect;
 use crate::types::Exception;
 use crate::types::Flow;
@@ -73,25 +75,25 @@ pub fn fault(x: Inputs, cause: Cause, eear: u32) -> Effect
     raise(x, 0, 0, x.sr, cause, restart(x), eear)
 }
 
-pub fn illegal(x: Inputs) -> Effect
-    ensures { λ r. ⌜ r ≡ illegalOf x ⌝ }
+pub fn illegal(x: Inputs) -> Action
+    ensures { λ r. ⌜ effectBy x r ≡ illegalOf x ⌝ }
 {
-    fault(x, Cause::Illegal, x.flow.pc)
+    Action::Whole(fault(x, Cause::Illegal, x.flow.pc))
 }
 
-pub fn trap(x: Inputs) -> Effect
-    ensures { λ r. ⌜ r ≡ trapOf x ⌝ }
+pub fn trap(x: Inputs) -> Action
+    ensures { λ r. ⌜ effectBy x r ≡ trapOf x ⌝ }
 {
-    fault(x, Cause::Trap, x.eear)
+    Action::Whole(fault(x, Cause::Trap, x.eear))
 }
 
-pub fn syscall(x: Inputs) -> Effect
-    ensures { λ r. ⌜ r ≡ syscallOf x ⌝ }
+pub fn syscall(x: Inputs) -> Action
+    ensures { λ r. ⌜ effectBy x r ≡ syscallOf x ⌝ }
 {
     if completed::in_slot(x) {
         return illegal(x);
     }
-    raise(
+    Action::Whole(raise(
         x,
         0,
         0,
@@ -99,5 +101,5 @@ pub fn syscall(x: Inputs) -> Effect
         Cause::Syscall,
         arith::address_add(x.flow.pc, 4),
         x.eear,
-    )
+    ))
 }

@@ -1,9 +1,10 @@
 // The special-purpose registers.
 ghost use mathlib.Core.Path.{_≡_};
 ghost use Rattle.effect.specs.Effect.{specialRegister, setsSpecialRegister};
+ghost use Rattle.effect.specs.Action.{effectBy};
 use crate::completed;
+use crate::types::Action;
 use crate::types::Board;
-use crate::types::Effect;
 use crate::types::Inputs;
 
 pub fn read(board: Board, x: Inputs, n: u32) -> u32
@@ -20,14 +21,14 @@ pub fn read(board: Board, x: Inputs, n: u32) -> u32
     }
 }
 
-pub fn write(x: Inputs, n: u32, v: u32) -> Effect
-    ensures { λ r. ⌜ r ≡ setsSpecialRegister x n v ⌝ }
+pub fn write(x: Inputs, n: u32, v: u32) -> Action
+    ensures { λ r. ⌜ effectBy x r ≡ setsSpecialRegister x n v ⌝ }
 {
     match n {
-        17 => completed::advance(x, 0, 0, arith::keep_allowed(v)),
-        32 => completed::advance(x, 36, arith::align(v), x.sr),
-        48 => completed::advance(x, 37, v, x.sr),
-        64 => completed::advance(x, 38, arith::keep_allowed(v), x.sr),
+        17 => completed::advance(0, 0, arith::keep_allowed(v)),
+        32 => completed::advance(36, arith::align(v), x.sr),
+        48 => completed::advance(37, v, x.sr),
+        64 => completed::advance(38, arith::keep_allowed(v), x.sr),
         _ => completed::nothing(x),
     }
 }

@@ -6,9 +6,10 @@ ghost use lib.Dec.{eqb};
 ghost use Rattle.arith.specs.Bit.{isSet};
 ghost use Rattle.arith.specs.Status.{OVE};
 ghost use Rattle.effect.specs.Effect.{flags as flagsOf, sums, sumsOrRaises};
+ghost use Rattle.effect.specs.Action.{effectBy};
 use crate::completed;
 use crate::raised;
-use crate::types::Effect;
+use crate::types::Action;
 use crate::types::Inputs;
 use arith::Flagged;
 use isa::vectors::Cause;
@@ -21,11 +22,11 @@ fn flags(x: Inputs, f: Flagged) -> u32
     arith::set_carry_overflow(x.sr, f.carry, f.overflow)
 }
 
-pub fn sum(x: Inputs, f: Flagged) -> Effect
+pub fn sum(x: Inputs, f: Flagged) -> Action
     requires { ⌜ (f .carry < 2) × (f .overflow < 2) ⌝ }
-    ensures { λ r. ⌜ r ≡ sums x f ⌝ }
+    ensures { λ r. ⌜ effectBy x r ≡ sums x f ⌝ }
 {
-    completed::advance(x, x.d, f.value, flags(x, f))
+    completed::advance(x.d, f.value, flags(x, f))
 }
 
 // SR asks for range on overflow, and f has overflowed.
@@ -39,12 +40,12 @@ fn out_of_range(x: Inputs, f: Flagged) -> bool
     }
 }
 
-pub fn sum_or_raise(x: Inputs, f: Flagged) -> Effect
+pub fn sum_or_raise(x: Inputs, f: Flagged) -> Action
     requires { ⌜ (f .carry < 2) × (f .overflow < 2) ⌝ }
-    ensures { λ r. ⌜ r ≡ sumsOrRaises x f ⌝ }
+    ensures { λ r. ⌜ effectBy x r ≡ sumsOrRaises x f ⌝ }
 {
     if out_of_range(x, f) {
-        return raised::raise(
+        return Action::Whole(raised::raise(
             x,
             x.d,
             f.value,
@@ -52,7 +53,7 @@ pub fn sum_or_raise(x: Inputs, f: Flagged) -> Effect
             Cause::Range,
             raised::restart(x),
             x.eear,
-        );
+        ));
     }
     sum(x, f)
 }

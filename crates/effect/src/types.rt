@@ -65,3 +65,25 @@ pub struct Effect {
     pub store: Store,
     pub outcome: Outcome,
 }
+
+// What an instruction writes that then goes on to the next one: a word of its state, and SR.
+pub struct Written {
+    pub place: u32,
+    pub value: u32,
+    pub sr: u32,
+}
+
+// A jump, with what it writes.
+pub struct Jumped {
+    pub place: u32,
+    pub value: u32,
+    pub target: u32,
+}
+
+// An effect in the form in which it is committed: what most instructions leave as it is need not be handed on.
+pub enum Action {
+    Advance(Written),
+    Jump(Jumped),
+    Save(Store),
+    Whole(Effect),
+}

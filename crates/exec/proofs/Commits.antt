@@ -8,9 +8,6 @@ use denote.Enum.Declared.{tagOf}
 use lib.ListN.{length}
 use borrow.Author.Tests.{lt-ltb, le-ltb}
 use Rattle.memory.specs.Memory.{Width, stored}
-use Rattle.isa.specs.declared.vectors.Cause.{Cause}
-use Rattle.effect.specs.Effect.{raises, faults}
-use Rattle.effect.specs.declared.types.Inputs.{Inputs}
 use Rattle.effect.specs.declared.types.Effect.{Effect}
 use Rattle.effect.specs.declared.types.Store.{Store}
 use Rattle.effect.specs.declared.types.Outcome.{Outcome}
@@ -36,36 +33,43 @@ storable-store : (len : ℕ) (s : Store) → SoundStore len s → 0 < s .width �
 storable-store len s (none z) h = absurd (omega arith)
 storable-store len s (some w) h = (w .wide, w .inside)
 
-pub storable : (len : ℕ) (e : Effect) → Sound len e → 0 < e .store .width → Width (e .store .width) × (e .store .address + e .store .width ≤ len)
-storable len e s h = storable-store len (e .store) (s .sound-store) h
-
-pub fault-sound : (len : ℕ) (x : Inputs) (cause : Cause) (a : ℕ) → Sound len (faults x cause a)
-unfolding raises
-fault-sound len x cause a = record { place-lt = omega arith; sound-store = none refl }
+pub storable : {len : ℕ} {e : Effect} {t : Store} → t ≡ e .store → Sound len e → 0 < t .width → Width (t .width) × (t .address + t .width ≤ len)
+storable {len} {e} {t} u s h = storable-store len t (subst (SoundStore len) (sym u) (s .sound-store)) h
 
 not-stored : (n : ℕ) (mem : List ℕ) (at v : ℕ) → n ≤ 0 → mem ≡ stored n mem at v
 unfolding stored
 not-stored zero mem at v h = refl
 not-stored (suc n) mem at v h = absurd (omega arith)
 
--- s₁ is the states with the core's own state committed, r what its outcome counts
-module _ (mem s s₁ : List ℕ) (core r : ℕ) (e : Effect) (p : s₁ ≡ ownState s core e) (q : r ≡ raisedBy (e .outcome)) where
-  pub committed-store : length s₁ ≡ length s → 0 < e .store .width → (mem′ s′ : List ℕ) →
+-- s₁ is the states with the core's own state committed, r what its outcome counts, t what it stores
+module _ {mem s s₁ : List ℕ} {core r : ℕ} {e : Effect} {t : Store} (p : s₁ ≡ ownState s core e) (q : r ≡ raisedBy (e .outcome)) (u : t ≡ e .store) where
+  with-store : length s₁ ≡ length s → 0 < e .store .width → {mem′ s′ : List ℕ} →
       mem′ ≡ stored (e .store .width) mem (e .store .address) (e .store .value) → s′ ≡ clearLinks (coreCount s₁) s₁ (touched e * 4) →
       Executed mem s core e mem′ s′ (record { raised = r; stored = true; word = touched e })
   unfolding statesAfter memoryAfter
-  committed-store l w mem′ s′ m k =
+  with-store l w m k =
       record {
         memory = m;
         states = k ∙ ap₂ (λ n (t : List ℕ). clearLinks (n / 42) t (touched e * 4)) l p ∙ sym (simp (lt-ltb 0 (e .store .width) w));
         done = simp (q, lt-ltb 0 (e .store .width) w);
       }
 
-  pub committed : e .store .width ≤ 0 → Executed mem s core e mem s₁ (record { raised = r; stored = false; word = touched e })
+  pub committed-store : length s₁ ≡ length s → 0 < t .width → {mem′ s′ : List ℕ} → mem′ ≡ stored (t .width) mem (t .address) (t .value) →
+      s′ ≡ clearLinks (coreCount s₁) s₁ (t .address / 4 * 4) → Executed mem s core e mem′ s′ (record { raised = r; stored = true; word = t .address / 4 })
+  committed-store l w {mem′} {s′} m k =
+      subst (λ (t : Store). 0 < t .width → mem′ ≡ stored (t .width) mem (t .address) (t .value) → s′ ≡ clearLinks (coreCount s₁) s₁ (t .address / 4 * 4) → Executed mem s core e mem′ s′ (record { raised = r; stored = true; word = t .address / 4 }))
+      (sym u) (λ w m k. with-store l w m k) w m k
+
+  without-store : e .store .width ≤ 0 → Executed mem s core e mem s₁ (record { raised = r; stored = false; word = touched e })
   unfolding statesAfter memoryAfter
-  committed w =
+  without-store w =
       record {
         memory = not-stored (e .store .width) mem (e .store .address) (e .store .value) w;
         states = p ∙ sym (simp (le-ltb 0 (e .store .width) w));
         done = simp (q, le-ltb 0 (e .store .width) w);
       }
+
+  pub committed : t .width ≤ 0 → Executed mem s core e mem s₁ (record { raised = r; stored = false; word = t .address / 4 })
+  committed w =
+      subst (λ (t : Store). t .width ≤ 0 → Executed mem s core e mem s₁ (record { raised = r; stored = false; word = t .address / 4 }))
+      (sym u) without-store w

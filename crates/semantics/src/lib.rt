@@ -1,20 +1,21 @@
 // What each kind does, a line a kind, in the order of document 01.
 ghost use mathlib.Core.Path.{_≡_};
 ghost use lib.ListN.{length};
-ghost use Rattle.semantics.specs.Meaning.{control as controlOf, loads, immediates, compareImmediates, stores, registers, compares, caches, meaning};
+ghost use Rattle.semantics.specs.Meaning.{control as controlOf, loads, immediates, compareImmediates, stores, registers, compares, caches};
+ghost use Rattle.effect.specs.Action.{effectBy};
 use effect::accesses;
 use effect::completed;
 use effect::jumps;
 use effect::raised;
 use effect::special;
 use effect::sums;
+use effect::types::Action;
 use effect::types::Board;
-use effect::types::Effect;
 use effect::types::Inputs;
 
 // Jumps, branches, exceptions, and what only goes on.
-fn control(kind: u8, x: Inputs) -> Effect
-    ensures { λ r. ⌜ r ≡ controlOf kind x ⌝ }
+pub fn control(kind: u8, x: Inputs) -> Action
+    ensures { λ r. ⌜ effectBy x r ≡ controlOf kind x ⌝ }
 {
     match kind {
         2 => jumps::jump(x, 0, 0, jumps::relative(x)),
@@ -36,8 +37,8 @@ fn control(kind: u8, x: Inputs) -> Effect
 }
 
 // Loads.
-fn load(mem: &[u8], kind: u8, x: Inputs) -> Effect
-    ensures { λ r. ⌜ r ≡ loads (now (mem .entry)) kind x ⌝ }
+pub fn load(mem: &[u8], kind: u8, x: Inputs) -> Action
+    ensures { λ r. ⌜ effectBy x r ≡ loads (now (mem .entry)) kind x ⌝ }
 {
     match kind {
         16 => accesses::load_linked(x, mem),
@@ -52,8 +53,8 @@ fn load(mem: &[u8], kind: u8, x: Inputs) -> Effect
 }
 
 // Sums, logic and shifts with an immediate.
-fn immediate(board: Board, kind: u8, x: Inputs) -> Effect
-    ensures { λ r. ⌜ r ≡ immediates board kind x ⌝ }
+pub fn immediate(board: Board, kind: u8, x: Inputs) -> Action
+    ensures { λ r. ⌜ effectBy x r ≡ immediates board kind x ⌝ }
 {
     match kind {
         23 => sums::sum(x, arith::add(x.a, x.immediate, 0)),
@@ -71,8 +72,8 @@ fn immediate(board: Board, kind: u8, x: Inputs) -> Effect
 }
 
 // Set flag immediate.
-fn compare_immediate(kind: u8, x: Inputs) -> Effect
-    ensures { λ r. ⌜ r ≡ compareImmediates kind x ⌝ }
+pub fn compare_immediate(kind: u8, x: Inputs) -> Action
+    ensures { λ r. ⌜ effectBy x r ≡ compareImmediates kind x ⌝ }
 {
     match kind {
         33 => completed::set_flag(x, arith::compare(0x0, x.a, x.immediate)),
@@ -90,8 +91,8 @@ fn compare_immediate(kind: u8, x: Inputs) -> Effect
 }
 
 // L.mtspr and the stores.
-fn store(len: usize, kind: u8, x: Inputs) -> Effect
-    ensures { λ r. ⌜ r ≡ stores len kind x ⌝ }
+pub fn store(len: usize, kind: u8, x: Inputs) -> Action
+    ensures { λ r. ⌜ effectBy x r ≡ stores len kind x ⌝ }
 {
     match kind {
         43 => special::write(x, arith::or(x.a, x.immediate), x.b),
@@ -104,8 +105,8 @@ fn store(len: usize, kind: u8, x: Inputs) -> Effect
 }
 
 // Sums, logic, shifts and extensions of registers.
-fn register(kind: u8, x: Inputs) -> Effect
-    ensures { λ r. ⌜ r ≡ registers kind x ⌝ }
+pub fn register(kind: u8, x: Inputs) -> Action
+    ensures { λ r. ⌜ effectBy x r ≡ registers kind x ⌝ }
 {
     match kind {
         48 => sums::sum_or_raise(x, arith::add(x.a, x.b, 0)),
@@ -132,8 +133,8 @@ fn register(kind: u8, x: Inputs) -> Effect
 }
 
 // Set flag.
-fn compare(kind: u8, x: Inputs) -> Effect
-    ensures { λ r. ⌜ r ≡ compares kind x ⌝ }
+pub fn compare(kind: u8, x: Inputs) -> Action
+    ensures { λ r. ⌜ effectBy x r ≡ compares kind x ⌝ }
 {
     match kind {
         67 => completed::set_flag(x, arith::compare(0x0, x.a, x.b)),
@@ -151,8 +152,8 @@ fn compare(kind: u8, x: Inputs) -> Effect
 }
 
 // The cache instructions, which only test their byte.
-fn cache(len: usize, kind: u8, x: Inputs) -> Effect
-    ensures { λ r. ⌜ r ≡ caches len kind x ⌝ }
+pub fn cache(len: usize, kind: u8, x: Inputs) -> Action
+    ensures { λ r. ⌜ effectBy x r ≡ caches len kind x ⌝ }
 {
     match kind {
         77 => accesses::touch(x, len),
@@ -160,31 +161,4 @@ fn cache(len: usize, kind: u8, x: Inputs) -> Effect
         79 => accesses::touch(x, len),
         _ => raised::illegal(x),
     }
-}
-
-pub fn effect_of(board: Board, mem: &[u8], kind: u8, x: Inputs) -> Effect
-    ensures { λ r. ⌜ r ≡ meaning board (now (mem .entry)) kind x ⌝ }
-{
-    if kind < 16 {
-        return control(kind, x);
-    }
-    if kind < 23 {
-        return load(mem, kind, x);
-    }
-    if kind < 33 {
-        return immediate(board, kind, x);
-    }
-    if kind < 43 {
-        return compare_immediate(kind, x);
-    }
-    if kind < 48 {
-        return store(mem.len(), kind, x);
-    }
-    if kind < 67 {
-        return register(kind, x);
-    }
-    if kind < 77 {
-        return compare(kind, x);
-    }
-    cache(mem.len(), kind, x)
 }

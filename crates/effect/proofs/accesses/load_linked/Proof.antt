@@ -5,6 +5,7 @@ use Rattle.memory.proofs.Laws.{same-tag, granted-inside}
 use Rattle.memory.specs.Memory.{word-wide}
 use Rattle.effect.specs.Effect.{loadLinked}
 use Rattle.effect.proofs.Access.{answered, misaligned, off-bus}
+use Rattle.effect.specs.Action.{effectBy}
 use borrow.Author.Needs.{needs}
 use Rattle.effect.proofs.accesses.load_linked.Statement.{statement}
 use Rattle.effect.proofs.accesses.load_linked.Tie as tie
@@ -44,15 +45,15 @@ fault-requires-2 : tie.Need-fault-requires-2
 fault-requires-2 c κs = search needs
 
 returns : tie.Need-returns
-unfolding loadLinked
+unfolding loadLinked effectBy
 returns c = answered (c .before .before .before .before .before .before .before .before .before .args .x) 4 (length (c .before .before .before .before .before .before .before .before .before .args .mem .now)) (c .before .before .before .before .before .before .before .address .result) (c .before .before .before .before .before .before .test .result) (c .before .before .before .before .before .before .before .address .ensures) (c .before .before .before .before .before .before .test .ensures) (c .before .before .before .before .before .match .keys1) _ _ (simp (c .complete .ensures, c .before .no-store .ensures, c .before .before .onward .ensures, c .before .before .before .load .ensures .0, c .before .before .before .before .before .before .before .address .ensures))
 
 returns-2 : tie.Need-returns-2
-unfolding loadLinked
+unfolding loadLinked effectBy
 returns-2 c = misaligned (c .before .before .before .before .before .before .args .x) 4 (length (c .before .before .before .before .before .before .args .mem .now)) (c .before .before .before .before .address .result) (c .before .before .before .test .result) (c .before .before .before .before .address .ensures) (c .before .before .before .test .ensures) (c .before .before .match .keys2) _ _ (c .fault .ensures)
 
 returns-3 : tie.Need-returns-3
-unfolding loadLinked
+unfolding loadLinked effectBy
 returns-3 c = off-bus (c .before .before .before .before .before .before .args .x) 4 (length (c .before .before .before .before .before .before .args .mem .now)) (c .before .before .before .before .address .result) (c .before .before .before .test .result) (c .before .before .before .before .address .ensures) (c .before .before .before .test .ensures) (c .before .before .match .keys3) _ _ (c .fault2 .ensures)
 
 pub load-linked-spec : {M : Type 1} → statement M

@@ -1,5 +1,6 @@
 use Rattle.effect.proofs.Access.{answered, misaligned, off-bus}
 use Rattle.effect.specs.Effect.{store}
+use Rattle.effect.specs.Action.{effectBy}
 use borrow.Author.Needs.{needs}
 use Rattle.effect.proofs.accesses.store.Statement.{statement}
 use Rattle.effect.proofs.accesses.store.Tie as tie
@@ -13,14 +14,8 @@ test-requires c κs = search needs
 enum-told : tie.Need-enum-told
 enum-told c = search needs
 
-onward-requires : tie.Need-onward-requires
-onward-requires c κs = search needs
-
 storing-requires : tie.Need-storing-requires
 storing-requires c κs = search needs
-
-complete-requires : tie.Need-complete-requires
-complete-requires c κs = search needs
 
 enum-told-2 : tie.Need-enum-told-2
 enum-told-2 c = search needs
@@ -35,15 +30,15 @@ fault-requires-2 : tie.Need-fault-requires-2
 fault-requires-2 c κs = search needs
 
 returns : tie.Need-returns
-unfolding store
-returns c = answered (c .before .before .before .before .before .before .before .before .args .x) (c .before .before .before .before .before .before .before .before .args .width) (c .before .before .before .before .before .before .before .before .args .len) (c .before .before .before .before .before .before .before .address .result) (c .before .before .before .before .before .before .test .result) (c .before .before .before .before .before .before .before .address .ensures) (c .before .before .before .before .before .before .test .ensures) (c .before .before .before .before .before .match .keys1) _ _ (simp (c .complete .ensures, c .before .storing .ensures, c .before .before .onward .ensures))
+unfolding store effectBy
+returns c = answered (c .before .before .before .before .before .args .x) (c .before .before .before .before .before .args .width) (c .before .before .before .before .before .args .len) (c .before .before .before .before .address .result) (c .before .before .before .test .result) (c .before .before .before .before .address .ensures) (c .before .before .before .test .ensures) (c .before .before .match .keys1) _ _ (simp (c .storing .ensures))
 
 returns-2 : tie.Need-returns-2
-unfolding store
+unfolding store effectBy
 returns-2 c = misaligned (c .before .before .before .before .before .args .x) (c .before .before .before .before .before .args .width) (c .before .before .before .before .before .args .len) (c .before .before .before .before .address .result) (c .before .before .before .test .result) (c .before .before .before .before .address .ensures) (c .before .before .before .test .ensures) (c .before .before .match .keys2) _ _ (c .fault .ensures)
 
 returns-3 : tie.Need-returns-3
-unfolding store
+unfolding store effectBy
 returns-3 c = off-bus (c .before .before .before .before .before .args .x) (c .before .before .before .before .before .args .width) (c .before .before .before .before .before .args .len) (c .before .before .before .before .address .result) (c .before .before .before .test .result) (c .before .before .before .before .address .ensures) (c .before .before .before .test .ensures) (c .before .before .match .keys3) _ _ (c .fault2 .ensures)
 
 pub store-spec : {M : Type 1} → statement M
@@ -53,9 +48,7 @@ store-spec =
     address-requires
     test-requires
     enum-told
-    onward-requires
     storing-requires
-    complete-requires
     enum-told-2
     fault-requires
     enum-told-3

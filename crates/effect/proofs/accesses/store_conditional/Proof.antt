@@ -1,6 +1,7 @@
 use Rattle.memory.specs.Memory.{word-wide}
 use Rattle.effect.specs.Effect.{storeConditional}
 use Rattle.effect.proofs.Access.{answered, misaligned, off-bus}
+use Rattle.effect.specs.Action.{effectBy}
 use borrow.Author.Needs.{needs}
 use Rattle.effect.proofs.accesses.store_conditional.Statement.{statement}
 use Rattle.effect.proofs.accesses.store_conditional.Tie as tie
@@ -45,15 +46,15 @@ fault-requires-2 : tie.Need-fault-requires-2
 fault-requires-2 c κs = search needs
 
 returns : tie.Need-returns
-unfolding storeConditional
+unfolding storeConditional effectBy
 returns c = answered (c .before .before .before .before .before .before .before .before .before .before .args .x) 4 (c .before .before .before .before .before .before .before .before .before .before .args .len) (c .before .before .before .before .before .before .before .before .before .address .result) (c .before .before .before .before .before .before .before .before .test .result) (c .before .before .before .before .before .before .before .before .before .address .ensures) (c .before .before .before .before .before .before .before .before .test .ensures) (c .before .before .before .before .before .before .before .match .keys1) _ _ (simp (c .complete .ensures, c .before .conditional .ensures, c .before .before .no-link .ensures, c .before .before .before .onward .ensures, c .before .before .before .before .set-flag .ensures, c .before .before .before .before .before .linked .ensures))
 
 returns-2 : tie.Need-returns-2
-unfolding storeConditional
+unfolding storeConditional effectBy
 returns-2 c = misaligned (c .before .before .before .before .before .args .x) 4 (c .before .before .before .before .before .args .len) (c .before .before .before .before .address .result) (c .before .before .before .test .result) (c .before .before .before .before .address .ensures) (c .before .before .before .test .ensures) (c .before .before .match .keys2) _ _ (c .fault .ensures)
 
 returns-3 : tie.Need-returns-3
-unfolding storeConditional
+unfolding storeConditional effectBy
 returns-3 c = off-bus (c .before .before .before .before .before .args .x) 4 (c .before .before .before .before .before .args .len) (c .before .before .before .before .address .result) (c .before .before .before .test .result) (c .before .before .before .before .address .ensures) (c .before .before .before .test .ensures) (c .before .before .match .keys3) _ _ (c .fault2 .ensures)
 
 pub store-conditional-spec : {M : Type 1} → statement M

@@ -1,6 +1,7 @@
 use Rattle.memory.specs.Memory.{byte-wide}
 use Rattle.effect.proofs.Access.{answered, misaligned, off-bus}
 use Rattle.effect.specs.Effect.{touch}
+use Rattle.effect.specs.Action.{effectBy}
 use borrow.Author.Needs.{needs}
 use Rattle.effect.proofs.accesses.touch.Statement.{statement}
 use Rattle.effect.proofs.accesses.touch.Tie as tie
@@ -34,11 +35,11 @@ unfolding touch
 returns c = answered (c .before .before .before .before .before .args .x) 1 (c .before .before .before .before .before .args .len) (c .before .before .before .before .address .result) (c .before .before .before .test .result) (c .before .before .before .before .address .ensures) (c .before .before .before .test .ensures) (c .before .before .match .keys1) _ _ (simp (c .nothing .ensures))
 
 returns-2 : tie.Need-returns-2
-unfolding touch
+unfolding touch effectBy
 returns-2 c = misaligned (c .before .before .before .before .before .args .x) 1 (c .before .before .before .before .before .args .len) (c .before .before .before .before .address .result) (c .before .before .before .test .result) (c .before .before .before .before .address .ensures) (c .before .before .before .test .ensures) (c .before .before .match .keys2) _ _ (c .fault .ensures)
 
 returns-3 : tie.Need-returns-3
-unfolding touch
+unfolding touch effectBy
 returns-3 c = off-bus (c .before .before .before .before .before .args .x) 1 (c .before .before .before .before .before .args .len) (c .before .before .before .before .address .result) (c .before .before .before .test .result) (c .before .before .before .before .address .ensures) (c .before .before .before .test .ensures) (c .before .before .match .keys3) _ _ (c .fault2 .ensures)
 
 pub touch-spec : {M : Type 1} → statement M

@@ -1,5 +1,6 @@
 use borrow.Author.Tests.{eq-eqb, ne-eqb}
 use Rattle.effect.specs.Effect.{nop}
+use Rattle.effect.specs.Action.{effectBy}
 use borrow.Author.Needs.{needs}
 use Rattle.effect.proofs.completed.nop.Statement.{statement}
 use Rattle.effect.proofs.completed.nop.Tie as tie
@@ -14,7 +15,7 @@ complete-requires : tie.Need-complete-requires
 complete-requires c κs = search needs
 
 returns : tie.Need-returns
-unfolding nop
+unfolding nop effectBy
 returns c = simp (c .complete .ensures, c .before .no-store .ensures, c .before .before .onward .ensures, eq-eqb _ _ (c .before .before .before .before .if1 .taken))
 
 nothing-requires : tie.Need-nothing-requires

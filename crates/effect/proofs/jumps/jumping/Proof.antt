@@ -1,19 +1,11 @@
-use borrow.Author.Needs.{needs}
+use mathlib.Core.Path.{refl}
+use Rattle.effect.specs.Action.{effectBy}
 use Rattle.effect.proofs.jumps.jumping.Statement.{statement}
 use Rattle.effect.proofs.jumps.jumping.Tie as tie
 
-address-add-requires : tie.Need-address-add-requires
-address-add-requires c κs = search needs
-
-no-store-requires : tie.Need-no-store-requires
-no-store-requires c κs = search needs
-
-complete-requires : tie.Need-complete-requires
-complete-requires c κs = search needs
-
 returns : tie.Need-returns
-returns c = simp (c .complete .ensures, c .before .no-store .ensures, c .before .before .before .address-add .ensures)
+unfolding effectBy
+returns c = λ x. refl
 
 pub jumping-spec : {M : Type 1} → statement M
-jumping-spec =
-    tie.close (tie.spec address-add-requires no-store-requires complete-requires returns)
+jumping-spec = tie.close (tie.spec returns)

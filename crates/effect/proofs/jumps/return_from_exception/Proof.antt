@@ -1,5 +1,6 @@
 use mathlib.Core.Path.{sym, ap, _∙_}
 use Rattle.effect.specs.Effect.{returns as returnsOf}
+use Rattle.effect.specs.Action.{effectBy}
 use borrow.Author.Needs.{needs}
 use Rattle.effect.proofs.jumps.return_from_exception.Statement.{statement}
 use Rattle.effect.proofs.jumps.return_from_exception.Tie as tie
@@ -21,7 +22,7 @@ complete-requires : tie.Need-complete-requires
 complete-requires c κs = search needs
 
 returns-2 : tie.Need-returns-2
-unfolding returnsOf
+unfolding returnsOf effectBy
 returns-2 c = simp (c .complete .ensures, c .before .no-store .ensures, sym (c .before .before .before .before .in-slot .ensures) ∙ c .before .before .before .if1 .left)
 
 pub return-from-exception-spec : {M : Type 1} → statement M

@@ -1,5 +1,6 @@
 use mathlib.Core.Path.{sym, ap, _∙_}
 use Rattle.effect.specs.Effect.{syscall}
+use Rattle.effect.specs.Action.{effectBy}
 use borrow.Author.Needs.{needs}
 use Rattle.effect.proofs.raised.syscall.Statement.{statement}
 use Rattle.effect.proofs.raised.syscall.Tie as tie
@@ -21,7 +22,7 @@ raise-requires : tie.Need-raise-requires
 raise-requires c κs = search needs
 
 returns-2 : tie.Need-returns-2
-unfolding syscall
+unfolding syscall effectBy
 returns-2 c = simp (c .raise .ensures, c .before .address-add .ensures, sym (c .before .before .before .in-slot .ensures) ∙ c .before .before .if1 .left)
 
 pub syscall-spec : {M : Type 1} → statement M

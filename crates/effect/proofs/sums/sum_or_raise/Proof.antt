@@ -1,4 +1,5 @@
 use mathlib.Core.Path.{sym, _∙_}
+use Rattle.effect.specs.Action.{effectBy}
 use borrow.Author.Needs.{needs}
 use Rattle.effect.specs.Effect.{sumsOrRaises}
 use Rattle.effect.proofs.sums.sum_or_raise.Statement.{statement}
@@ -17,7 +18,7 @@ raise-requires : tie.Need-raise-requires
 raise-requires c κs = search needs
 
 returns : tie.Need-returns
-unfolding sumsOrRaises
+unfolding sumsOrRaises effectBy
 returns c =
     simp (
       c .raise .ensures,

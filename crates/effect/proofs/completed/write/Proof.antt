@@ -1,0 +1,12 @@
+use borrow.Author.Needs.{needs}
+use Rattle.effect.proofs.completed.write.Statement.{statement}
+use Rattle.effect.proofs.completed.write.Tie as tie
+
+advance-requires : tie.Need-advance-requires
+advance-requires c κs = search needs
+
+returns : tie.Need-returns
+returns c = c .advance .ensures _
+
+pub write-spec : {M : Type 1} → statement M
+write-spec = tie.close (tie.spec advance-requires returns)
