@@ -1,13 +1,13 @@
--- One schedule entry of the fast run, where every filled entry is its word's form: it is the plain run's, and the decode cache goes with the
--- history. Assumes nothing.
+-- One schedule entry of the fast run, where every filled entry is its word's form: it is the plain run's, and the decode cache, which need not
+-- have every word, goes with the history. Assumes nothing.
 use mathlib.Core.Bool.{Bool, true, false}
 use mathlib.Core.List.{List, [], _∷_}
 use mathlib.Core.Path.{_≡_, refl, sym, ap, ap₂, _∙_}
-use Prim.Native.Nat.{ℕ, zero, suc, _+_, _*_, _<_, _≤_}
+use Prim.Native.Nat.{ℕ, zero, suc, _+_, _<_, _≤_}
 use native.Mathlib.Omega.{arith}
 use lib.ListN.{length, getD, set, length-set}
 use lib.Seq.{getD-set-same, getD-set-other}
-use borrow.Author.Tests.{eq-eqb, ne-eqb, leb-true}
+use borrow.Author.Tests.{eq-eqb, ne-eqb}
 use Rattle.bits.specs.Choice.{if_then_else_}
 use Rattle.bits.specs.Word.{field}
 use Rattle.isa.specs.InstructionSet.{decode}
@@ -15,18 +15,17 @@ use Rattle.isa.specs.Parts.{kindOf}
 use Rattle.isa.proofs.Complete.{decode-kind}
 use Rattle.isa.proofs.Rows.{kind-range}
 use Rattle.memory.specs.Memory.{memoryWord}
-use Rattle.effect.specs.State.{pcAt}
 use Rattle.effect.specs.Effect.{raises}
 use Rattle.effect.specs.declared.types.Board.{Board}
 use Rattle.effect.specs.declared.types.Effect.{Effect}
-use Rattle.semantics.specs.Commit.{wordAt, effectOf, fetchFault, stores, touched, memoryAfter}
+use Rattle.semantics.specs.Commit.{effectOf, fetchFault, stores, touched, memoryAfter}
 use Rattle.lawful.specs.Sound.{Sound}
-use Rattle.lawful.proofs.Cases.{if-both, by-equality}
-use Rattle.lawful.proofs.Instruction.{effect-sound, length-memory, no-store-kept, other-words-kept}
+use Rattle.lawful.proofs.Cases.{by-equality}
+use Rattle.lawful.proofs.Instruction.{effect-sound, no-store-kept, other-words-kept}
 use Rattle.engine.specs.Plain.{Plain, isRunning, isInside, fetched, formAt, plainEffect, plainAfter, plainStep}
 use Rattle.engine.specs.Fast.{Fast, filled, cachedForm, emptied, fastFetch, fastFault, fastStep}
 use Rattle.engine.specs.History.{History, cachedAtFirst, historyFetch, historyStep}
-use Rattle.engine.specs.Invariant.{Right, Fits, historyOf}
+use Rattle.engine.specs.Invariant.{Right, historyOf}
 
 -- a form is never 0
 decode-filled : (w : ℕ) → decode w ≡ 0 → ⊥
@@ -66,27 +65,31 @@ cached-emptied e c = go (stores e)
     go true = cached-set c (touched e) 0
     go false = refl
 
-pub length-emptied : (e : Effect) (c : List ℕ) → length (emptied e c) ≡ length c
-unfolding emptied
-length-emptied e c = if-both (λ (l : List ℕ). length l ≡ length c) (stores e) (length-set c (touched e) 0) refl
-
 -- ---- every filled entry stays its word's form
 
--- a filled entry or a decoded word: the same
-pub cached-form : (mem c : List ℕ) (k : ℕ) → k < length c → Right c mem → cachedForm mem c k ≡ formAt mem k
-cached-form mem c k h r =
-    by-equality (getD c k 0) 0 (λ q. rw (eq-eqb _ _ q)) (λ q. rw (ne-eqb _ _ q) (r k h q))
+filled-inside : (c : List ℕ) (k : ℕ) → (getD c k 0 ≡ 0 → ⊥) → k < length c
+filled-inside [] k n = absurd (n refl)
+filled-inside (x ∷ c) zero n = omega arith
+filled-inside (x ∷ c) (suc k) n = let h : k < length c = filled-inside c k n in omega arith
 
-right-filled : (mem c : List ℕ) (k : ℕ) → k < length c → Right c mem → Right (set c k (formAt mem k)) mem
-right-filled mem c k h r j i q = by-equality j k same other
+-- a filled entry or a decoded word: the same
+cached-form : (mem c : List ℕ) (k : ℕ) → Right c mem → cachedForm mem c k ≡ formAt mem k
+cached-form mem c k r =
+    by-equality (getD c k 0) 0 (λ q. rw (eq-eqb _ _ q)) (λ q. rw (ne-eqb _ _ q) (r k (filled-inside c k q) q))
+
+right-filled : (mem c : List ℕ) (k : ℕ) → Right c mem → Right (set c k (formAt mem k)) mem
+right-filled mem c k r j i q = by-equality j k same other
   where
+    l : j < length c
+    l = rw length-set at i
+
     same : j ≡ k → getD (set c k (formAt mem k)) j 0 ≡ formAt mem j
-    same e = rw e (getD-set-same c k (formAt mem k) 0 h)
+    same e = let h : k < length c = rw e at l in rw e (getD-set-same c k (formAt mem k) 0 h)
 
     other : (j ≡ k → ⊥) → getD (set c k (formAt mem k)) j 0 ≡ formAt mem j
     other n =
         let o : getD (set c k (formAt mem k)) j 0 ≡ getD c j 0 = getD-set-other c k j (formAt mem k) 0 n in
-        o ∙ r j (rw length-set at i) (λ z. q (o ∙ z))
+        o ∙ r j l (λ z. q (o ∙ z))
 
 right-touched : (mem c : List ℕ) (e : Effect) → Sound (length mem) e → Right c mem → Right (set c (touched e) 0) (memoryAfter mem e)
 unfolding formAt
@@ -130,16 +133,16 @@ fault-stores s core = refl
 pub record Agrees (y : Fast) (p : Plain) (h : History) : Type 0 where
   pub same-plain : y .plain ≡ p
   pub same-history : historyOf y ≡ h
-  pub fits-again : Fits y
+  pub right-again : Right (y .cache) (y .plain .memory)
 
-module _ (board : Board) (x : Fast) (core : ℕ) (fits : Fits x) where
-  done-agrees : (k : ℕ) (e : Effect) → k < length (x .cache) → Sound (length (x .plain .memory)) e
+module _ (board : Board) (x : Fast) (core : ℕ) (right : Right (x .cache) (x .plain .memory)) where
+  done-agrees : (k : ℕ) (e : Effect) → Sound (length (x .plain .memory)) e
       → Agrees
       (record { plain = plainAfter (x .plain) core e; cache = emptied e (set (x .cache) k (formAt (x .plain .memory) k)); reused = x .reused + filled (getD (x .cache) k 0) })
       (plainAfter (x .plain) core e)
       (record { cached = emptied e (set (cachedAtFirst (x .cache)) k 1); reused = x .reused + getD (cachedAtFirst (x .cache)) k 0 })
   unfolding plainAfter
-  done-agrees k e h sound =
+  done-agrees k e sound =
       let f = formAt (x .plain .memory) k in
       let one : filled f ≡ 1 = rw (ne-eqb f 0 (form-filled (x .plain .memory) k)) in
       record {
@@ -148,10 +151,7 @@ module _ (board : Board) (x : Fast) (core : ℕ) (fits : Fits x) where
             ap₂ (λ (c : List ℕ) (n : ℕ). record { cached = c; reused = x .reused + n })
             (cached-emptied e (set (x .cache) k f) ∙ ap (emptied e) (cached-set (x .cache) k f ∙ ap (set (cachedAtFirst (x .cache)) k) one))
             (sym (cached-at (x .cache) k));
-        fits-again = record {
-          words = rw (length-emptied, length-set, length-memory) (fits .words);
-          right = right-emptied (x .plain .memory) (set (x .cache) k f) e sound (right-filled (x .plain .memory) (x .cache) k h (fits .right));
-        };
+        right-again = right-emptied (x .plain .memory) (set (x .cache) k f) e sound (right-filled (x .plain .memory) (x .cache) k right);
       }
 
   module _ (inside : isInside (x .plain .memory) (x .plain .states) core ≡ true) where
@@ -168,11 +168,8 @@ module _ (board : Board) (x : Fast) (core : ℕ) (fits : Fits x) where
     unfolding fastFetch historyFetch
     fetch-agrees =
         let k = fetched (x .plain .states) core in
-        let i : wordAt (x .plain .states) core pcAt + 4 ≤ length (x .plain .memory) = leb-true _ _ inside in
-        let w : length (x .cache) * 4 ≡ length (x .plain .memory) = fits .words in
-        let h : k < length (x .cache) = omega arith in
-        rw (effect-inside, cached-form (x .plain .memory) (x .cache) k h (fits .right))
-        (done-agrees k (effectOf board (x .plain .memory) (x .plain .states) core (formAt (x .plain .memory) k)) h
+        rw (effect-inside, cached-form (x .plain .memory) (x .cache) k right)
+        (done-agrees k (effectOf board (x .plain .memory) (x .plain .states) core (formAt (x .plain .memory) k))
         (effect-sound board (x .plain .memory) (x .plain .states) core (formAt (x .plain .memory) k)))
 
   fault-agrees : isInside (x .plain .memory) (x .plain .states) core ≡ false →
@@ -183,10 +180,7 @@ module _ (board : Board) (x : Fast) (core : ℕ) (fits : Fits x) where
       rw outside (record {
         same-plain = refl;
         same-history = refl;
-        fits-again = record {
-          words = rw length-memory (fits .words);
-          right = rw (no-store-kept (x .plain .memory) e (fault-stores (x .plain .states) core)) (fits .right);
-        };
+        right-again = rw (no-store-kept (x .plain .memory) e (fault-stores (x .plain .states) core)) right;
       })
 
   by-tests : (a b : Bool) → isInside (x .plain .memory) (x .plain .states) core ≡ b → Agrees
@@ -198,7 +192,7 @@ module _ (board : Board) (x : Fast) (core : ℕ) (fits : Fits x) where
       (if a then (if b then historyFetch board (x .plain) (historyOf x) core else historyOf x) else historyOf x)
   by-tests true true e = fetch-agrees e
   by-tests true false e = fault-agrees e
-  by-tests false b e = record { same-plain = refl; same-history = refl; fits-again = fits }
+  by-tests false b e = record { same-plain = refl; same-history = refl; right-again = right }
 
   pub step-agrees : Agrees (fastStep board x core) (plainStep board (x .plain) core) (historyStep board (x .plain) (historyOf x) core)
   unfolding fastStep plainStep historyStep

@@ -1,7 +1,7 @@
 -- What is not refused can be run, and what a run leaves is not refused; the answer. Assumes nothing.
 use mathlib.Core.Bool.{Bool, true, false, _&&_}
 use mathlib.Core.List.{List, []}
-use mathlib.Core.Path.{_≡_, refl, sym, ap, ap₂, _∙_}
+use mathlib.Core.Path.{_≡_, refl, sym, ap, ap₂, subst, _∙_}
 use Prim.Native.Nat.{ℕ, _+_, _/_, _%_, _≤_}
 use native.Mathlib.Omega.{arith}
 use lib.Dec.{T, eqb, leb, ltb, eqb→eq, leb→le, ltb→lt}
@@ -12,17 +12,19 @@ use Rattle.semantics.specs.Commit.{coreCount}
 use Rattle.lawful.specs.Accepted.{accepted, AllAccepted}
 use Rattle.lawful.proofs.Accepted.{accepted-means, means-accepted}
 use Rattle.lawful.proofs.Cases.{by-equality}
-use Rattle.engine.specs.Plain.{Plain, plainRun, formAt}
+use Rattle.engine.specs.Plain.{Plain, plainRun, boardOf, start, formAt}
+use Rattle.engine.specs.Fast.{Fast, fastFrom}
 use Rattle.engine.specs.History.{History, history, entriesFrom}
-use Rattle.engine.specs.Refusal.{memoryFits, statesFit, statesObey, scheduleFits, namesCores, cacheFits, entryRight, entriesRight, cacheRules, rulesThen, firstBroken, plainRefusal, fastRefusal, refusalNumber, everyFrom}
-use Rattle.engine.specs.Answer.{AtMost, plainOf, noCounts, cacheLeft, PlainAnswer, FastAnswer}
-use Rattle.engine.specs.Invariant.{fastOf, Runnable, Right, Fits, FastLeft}
+use Rattle.engine.specs.Refusal.{statesFit, statesObey, scheduleFits, namesCores, cacheFits, entryRight, entriesRight, cacheRules, rulesThen, firstBroken, plainRefusal, fastRefusal, refusalNumber, everyFrom}
+use Rattle.engine.specs.Answer.{AtMost, noCounts, cacheLeft, PlainAnswer, FastAnswer}
+use Rattle.engine.specs.Invariant.{fastOf, Runnable, Right}
 use Rattle.engine.specs.declared.answer.Counts.{Counts}
 use Rattle.engine.specs.declared.answer.Refusal.{Refusal}
 use Rattle.engine.specs.declared.answer.Refusal.the-variants.{MemoryLength, StatesLength, StateRule, ScheduleLength, NoSuchCore, CacheLength, CacheEntry}
 use Rattle.engine.specs.declared.answer.Answer.the-variants.{Ran, Refused}
 use Rattle.engine.proofs.Tests.{T-of, below-at, of-below, from-at, of-from, Each, each-passes, none-broken, broken-before, broken-after}
-use Rattle.engine.proofs.Schedule.{cache-is}
+use Rattle.engine.proofs.Agree.{Agrees}
+use Rattle.engine.proofs.Schedule.{from-agrees, from-uncached, from-accepted, cache-is}
 
 -- ---- the numbers
 
@@ -55,11 +57,6 @@ fits-cores n t =
 
 pub few-cores : (n : ℕ) → statesFit n ≡ true → n / 42 ≤ 4
 few-cores n e = fits-cores n (T-of (statesFit n) e)
-
-memory-words : (n : ℕ) → T (memoryFits n) → n % 4 ≡ 0
-unfolding memoryFits
-memory-words n t =
-    eqb→eq (n % 4) 0 (and-right (leb n 1048576) (eqb (n % 4) 0) (and-right (leb 4096 n) (leb n 1048576 && eqb (n % 4) 0) t))
 
 obeys-accepted : (s : List ℕ) → T (statesObey s) → AllAccepted s
 unfolding statesObey
@@ -99,7 +96,7 @@ module _ (mem s schedule cache : List ℕ) (z : fastRefusal mem s schedule cache
   unfolding each
   fast-runnable = each-runnable mem s schedule (cacheRules mem cache) each
 
-  pub fast-accepted : AllAccepted s
+  fast-accepted : AllAccepted s
   unfolding each
   fast-accepted = obeys-accepted s (each .1 .1 .0)
 
@@ -112,13 +109,6 @@ module _ (mem s schedule cache : List ℕ) (z : fastRefusal mem s schedule cache
   cache-right k h n =
       let z : 0 + k ≡ k = omega arith in
       entry-right mem k (getD cache k 0) (rw z at (from-at (entryRight mem) cache 0 (each .1 .1 .1 .1 .1 .1 .0) k h)) n
-
-  pub fast-fits : (n : Counts) → Fits (fastOf mem s cache n)
-  unfolding each
-  fast-fits n =
-      let l : length cache ≡ length mem / 4 = cache-length in
-      let w : length mem % 4 ≡ 0 = memory-words (length mem) (each .0) in
-      record { words = omega arith; right = cache-right }
 
   -- what is left is not refused
   pub again : (mem′ s′ cache′ : List ℕ) → length mem′ ≡ length mem → length s′ ≡ length s → length cache′ ≡ length cache → AllAccepted s′
@@ -155,9 +145,19 @@ none-small : AtMost 65536 noCounts
 none-small = record { executed-le = omega arith; raised-le = omega arith; reused-le = omega arith }
 
 module _ (mem s schedule : List ℕ) where
-  pub plain-ran : (mem′ s′ : List ℕ) (n : Counts) → plainRefusal mem s schedule ≡ 0 → plainOf mem′ s′ n ≡ plainRun mem s schedule → n .reused ≡ 0
-      → AtMost 65536 n → PlainAnswer mem s schedule mem′ s′ (Ran n)
-  plain-ran mem′ s′ n z e u a = record { refusal = sym z; left = rw (eq-eqb _ _ z) e; none-reused = u; small = a }
+  -- with an empty cache
+  pub plain-ran : (mem′ s′ cache′ : List ℕ) (n : Counts) → plainRefusal mem s schedule ≡ 0
+      → fastOf mem′ s′ cache′ n ≡ fastFrom (boardOf s) schedule (fastOf mem s [] noCounts) → AtMost 65536 n
+      → PlainAnswer mem s schedule mem′ s′ (Ran n)
+  unfolding plainRun
+  plain-ran mem′ s′ cache′ n z e a =
+      let f = e ∙ from-uncached (boardOf s) schedule (start mem s) 0 in
+      record {
+        refusal = sym z;
+        left = rw (eq-eqb _ _ z) (ap (λ (x : Fast). x .plain) f);
+        none-reused = ap (λ (x : Fast). x .reused) f;
+        small = a;
+      }
 
   pub plain-refused : (cause : Refusal) → refusalNumber cause ≡ plainRefusal mem s schedule → PlainAnswer mem s schedule mem s (Refused cause)
   plain-refused cause e = record {
@@ -183,13 +183,18 @@ module _ (mem s schedule : List ℕ) where
         }
 
     pub fast-ran : (mem′ s′ cache′ : List ℕ) (n : Counts) → fastRefusal mem s schedule cache ≡ 0
-        → FastLeft mem s schedule cache (fastOf mem′ s′ cache′ n)
+        → fastOf mem′ s′ cache′ n ≡ fastFrom (boardOf s) schedule (fastOf mem s cache noCounts)
         → AtMost 65536 n → length mem′ ≡ length mem → length s′ ≡ length s → length cache′ ≡ length cache
         → FastAnswer mem s schedule cache mem′ s′ cache′ (Ran n)
-    unfolding cacheLeft
-    fast-ran mem′ s′ cache′ n z f a p q r =
+    unfolding plainRun history cacheLeft
+    fast-ran mem′ s′ cache′ n z e a p q r =
+        let f : Agrees (fastOf mem′ s′ cache′ n) (plainRun mem s schedule) (history mem s schedule cache) =
+        subst (λ (x : Fast). Agrees x (plainRun mem s schedule) (history mem s schedule cache)) (sym e)
+        (from-agrees (boardOf s) schedule (fastOf mem s cache noCounts) (cache-right mem s schedule cache z)) in
+        let t : AllAccepted (plainRun mem s schedule .states) =
+        from-accepted (boardOf s) schedule (start mem s) (fast-runnable mem s schedule cache z .names-cores) (fast-accepted mem s schedule cache z) in
         let c : cache′ ≡ entriesFrom 0 (plainRun mem s schedule .memory) (history mem s schedule cache .cached) =
-        cache-is mem′ cache′ (f .fits-again .right)
+        cache-is mem′ cache′ (f .right-again)
         ∙ ap₂ (λ (x : Plain) (h : History). entriesFrom 0 (x .memory) (h .cached)) (f .same-plain) (f .same-history) in
         record {
           refusal = sym z;
@@ -197,5 +202,6 @@ module _ (mem s schedule : List ℕ) where
           cache-left = rw (eq-eqb (fastRefusal mem s schedule cache) 0 z) c;
           reused-count = rw (eq-eqb _ _ z) (ap (λ (h : History). h .reused) (f .same-history));
           small = a;
-          accepted-again = λ _. again mem s schedule cache z mem′ s′ cache′ p q r (f .accepted-again) (f .fits-again .right);
+          accepted-again =
+              λ _. again mem s schedule cache z mem′ s′ cache′ p q r (subst (λ (x : Plain). AllAccepted (x .states)) (sym (f .same-plain)) t) (f .right-again);
         }

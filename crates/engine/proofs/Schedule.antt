@@ -1,6 +1,7 @@
--- A whole schedule: what is left of it, entry by entry. Assumes nothing.
+-- A whole schedule, entry by entry. Assumes nothing.
+use mathlib.Core.Bool.{Bool, true, false}
 use mathlib.Core.List.{List, [], _∷_}
-use mathlib.Core.Path.{_≡_, refl, sym, ap, ap₂, _∙_}
+use mathlib.Core.Path.{_≡_, refl, sym, ap, _∙_}
 use Prim.Native.Nat.{ℕ, zero, suc, _+_, _<_, _≤_}
 use native.Mathlib.Numerals.{add-one}
 use native.Mathlib.Omega.{arith}
@@ -13,41 +14,67 @@ use Rattle.isa.specs.declared.vectors.Cause.the-variants.{Bus}
 use Rattle.memory.specs.Memory.{memoryWord}
 use Rattle.effect.specs.State.{pcAt}
 use Rattle.effect.specs.declared.types.Board.{Board}
-use Rattle.semantics.specs.Commit.{wordAt, coreCount, inputs, noFields}
+use Rattle.effect.specs.declared.types.Effect.{Effect}
+use Rattle.semantics.specs.Commit.{wordAt, coreCount, inputs, noFields, stores}
 use Rattle.lawful.specs.Rules.{Lawful}
 use Rattle.lawful.specs.Accepted.{AllAccepted}
 use Rattle.lawful.proofs.Cases.{if-both, by-equality}
 use Rattle.lawful.proofs.Lawful.{faults-lawful}
-use Rattle.lawful.proofs.States.{states-accepted}
+use Rattle.lawful.proofs.States.{length-states, states-accepted}
 use Rattle.lawful.proofs.Instruction.{inputs-lawful, decoded-lawful}
-use Rattle.engine.specs.Plain.{Plain, isRunning, isInside, fetched, formAt, plainEffect, plainAfter, plainStep, plainFrom, plainRun, boardOf}
-use Rattle.engine.specs.Fast.{Fast, fastStep}
-use Rattle.engine.specs.History.{History, cachedAtFirst, historyStep, historyFrom, history, entriesFrom}
-use Rattle.engine.specs.Answer.{noCounts}
-use Rattle.engine.specs.Invariant.{Right, Fits, historyOf, fastOf, FastLeft}
+use Rattle.engine.specs.Plain.{Plain, isRunning, isInside, fetched, formAt, plainEffect, plainAfter, plainStep, plainFrom}
+use Rattle.engine.specs.Fast.{Fast, emptied, fastFetch, fastFault, fastStep, fastFrom}
+use Rattle.engine.specs.History.{cachedAtFirst, historyFrom, entriesFrom}
+use Rattle.engine.specs.Invariant.{Right, historyOf}
 use Rattle.engine.proofs.Agree.{Agrees, step-agrees, cached-at, length-cached}
 
 -- ---- the entry i of a schedule
 
-module _ (board : Board) (schedule : List ℕ) (i : ℕ) where
-  pub plain-next : (p : Plain) → i < length schedule
-      → plainFrom board (drop i schedule) p ≡ plainFrom board (drop (i + 1) schedule) (plainStep board p (getD schedule i 0))
-  unfolding plainFrom
-  plain-next p h = rw (add-one, drop-cons schedule i 0 h)
+module _ (board : Board) (schedule : List ℕ) (i : ℕ) (x : Fast) where
+  pub from-next : i < length schedule
+      → fastFrom board (drop i schedule) x ≡ fastFrom board (drop (i + 1) schedule) (fastStep board x (getD schedule i 0))
+  unfolding fastFrom
+  from-next h = rw (add-one, drop-cons schedule i 0 h)
 
-  pub plain-end : (p : Plain) → length schedule ≤ i → plainFrom board (drop i schedule) p ≡ p
-  unfolding plainFrom
-  plain-end p h = rw (drop-of-length-le schedule h)
+  pub from-end : length schedule ≤ i → fastFrom board (drop i schedule) x ≡ x
+  unfolding fastFrom
+  from-end h = rw (drop-of-length-le schedule h)
 
-  history-next : (p : Plain) (h : History) → i < length schedule
-      → historyFrom board (drop i schedule) p h
-      ≡ historyFrom board (drop (i + 1) schedule) (plainStep board p (getD schedule i 0)) (historyStep board p h (getD schedule i 0))
-  unfolding historyFrom
-  history-next p h l = rw (add-one, drop-cons schedule i 0 l)
+-- ---- both runs agree
 
-  history-end : (p : Plain) (h : History) → length schedule ≤ i → historyFrom board (drop i schedule) p h ≡ h
-  unfolding historyFrom
-  history-end p h l = rw (drop-of-length-le schedule l)
+pub from-agrees : (board : Board) (schedule : List ℕ) (x : Fast) → Right (x .cache) (x .plain .memory)
+    → Agrees (fastFrom board schedule x) (plainFrom board schedule (x .plain)) (historyFrom board schedule (x .plain) (historyOf x))
+unfolding fastFrom plainFrom historyFrom
+from-agrees board [] x r = record { same-plain = refl; same-history = refl; right-again = r }
+from-agrees board (core ∷ schedule) x r =
+    let s = step-agrees board x core r in
+    rw (← s .same-plain, ← s .same-history) (from-agrees board schedule (fastStep board x core) (s .right-again))
+
+-- ---- with an empty cache it is the plain run, and nothing is reused
+
+abbrev uncached : Plain → ℕ → Fast
+uncached p n = record { plain = p; cache = []; reused = n }
+
+none-emptied : (e : Effect) → emptied e [] ≡ []
+unfolding emptied
+none-emptied e = if-both (λ (l : List ℕ). l ≡ []) (stores e) refl refl
+
+module _ (board : Board) (p : Plain) (core n : ℕ) where
+  by-tests : (a b : Bool) → isRunning (p .states) core ≡ a → isInside (p .memory) (p .states) core ≡ b
+      → fastStep board (uncached p n) core ≡ uncached (plainStep board p core) n
+  unfolding fastStep fastFetch fastFault plainStep plainEffect
+  by-tests true true r i = let z : n + 0 ≡ n = omega arith in rw (r, i, none-emptied, z)
+  by-tests true false r i = rw (r, i)
+  by-tests false b r i = rw r
+
+  step-uncached : fastStep board (uncached p n) core ≡ uncached (plainStep board p core) n
+  step-uncached = by-tests (isRunning (p .states) core) (isInside (p .memory) (p .states) core) refl refl
+
+pub from-uncached : (board : Board) (schedule : List ℕ) (p : Plain) (n : ℕ)
+    → fastFrom board schedule (uncached p n) ≡ uncached (plainFrom board schedule p) n
+unfolding fastFrom plainFrom
+from-uncached board [] p n = refl
+from-uncached board (core ∷ schedule) p n = rw (step-uncached board p core n) (from-uncached board schedule (plainStep board p core) n)
 
 -- ---- accepted states stay accepted
 
@@ -64,47 +91,20 @@ step-accepted board p core h a =
     if-both (λ (q : Plain). AllAccepted (q .states)) (isRunning (p .states) core)
     (states-accepted (p .states) core (plainEffect board (p .memory) (p .states) core) (effect-lawful board (p .memory) (p .states) core h a) h a) a
 
--- ---- the loop of a fast run: x₀ has come to x at entry i
+step-length : (board : Board) (p : Plain) (core : ℕ) → length (plainStep board p core .states) ≡ length (p .states)
+unfolding plainStep plainAfter
+step-length board p core =
+    if-both (λ (q : Plain). length (q .states) ≡ length (p .states)) (isRunning (p .states) core)
+    (length-states (p .states) core (plainEffect board (p .memory) (p .states) core)) refl
 
-pub record Going (board : Board) (schedule : List ℕ) (x₀ : Fast) (i : ℕ) (x : Fast) : Type 0 where
-  pub plain-left : plainFrom board (drop i schedule) (x .plain) ≡ plainFrom board schedule (x₀ .plain)
-  pub history-left : historyFrom board (drop i schedule) (x .plain) (historyOf x) ≡ historyFrom board schedule (x₀ .plain) (historyOf x₀)
-  pub fits : Fits x
-  pub accepted : AllAccepted (x .plain .states)
-
-module _ (board : Board) (schedule : List ℕ) (x₀ : Fast) where
-  pub going-first : Fits x₀ → AllAccepted (x₀ .plain .states) → Going board schedule x₀ 0 x₀
-  going-first f a = record { plain-left = refl; history-left = refl; fits = f; accepted = a }
-
-  pub going-on : {x y : Fast} {core : ℕ} (i : ℕ) → Going board schedule x₀ i x → i < length schedule → core ≡ getD schedule i 0
-      → core < coreCount (x .plain .states) → y ≡ fastStep board x core → Going board schedule x₀ (i + 1) y
-  going-on {x} {y} {core} i g h q l e = rw e next
-    where
-      s : Agrees (fastStep board x core) (plainStep board (x .plain) core) (historyStep board (x .plain) (historyOf x) core)
-      s = step-agrees board x core (g .fits)
-
-      next : Going board schedule x₀ (i + 1) (fastStep board x core)
-      next = record {
-        plain-left =
-            ap (plainFrom board (drop (i + 1) schedule)) (s .same-plain ∙ ap (plainStep board (x .plain)) q)
-            ∙ sym (plain-next board schedule i (x .plain) h) ∙ g .plain-left;
-        history-left =
-            ap₂ (historyFrom board (drop (i + 1) schedule)) (s .same-plain ∙ ap (plainStep board (x .plain)) q)
-            (s .same-history ∙ ap (historyStep board (x .plain) (historyOf x)) q)
-            ∙ sym (history-next board schedule i (x .plain) (historyOf x) h) ∙ g .history-left;
-        fits = s .fits-again;
-        accepted = rw (s .same-plain) (step-accepted board (x .plain) core l (g .accepted));
-      }
-
-pub going-end : (mem s schedule c : List ℕ) {x : Fast} (i : ℕ) → Going (boardOf s) schedule (fastOf mem s c noCounts) i x → length schedule ≤ i
-    → FastLeft mem s schedule c x
-unfolding plainRun history
-going-end mem s schedule c {x} i g l = record {
-  same-plain = sym (plain-end (boardOf s) schedule i (x .plain) l) ∙ g .plain-left;
-  same-history = sym (history-end (boardOf s) schedule i (x .plain) (historyOf x) l) ∙ g .history-left;
-  fits-again = g .fits;
-  accepted-again = g .accepted;
-}
+pub from-accepted : (board : Board) (schedule : List ℕ) (p : Plain)
+    → ((i : ℕ) → i < length schedule → getD schedule i 0 < coreCount (p .states)) → AllAccepted (p .states)
+    → AllAccepted (plainFrom board schedule p .states)
+unfolding plainFrom
+from-accepted board [] p n a = a
+from-accepted board (core ∷ schedule) p n a =
+    from-accepted board schedule (plainStep board p core) (λ i h. rw (step-length board p core) (n (suc i) (omega arith)))
+    (step-accepted board p core (n 0 (omega arith)) a)
 
 -- ---- the cache that a fast run leaves
 

@@ -17,10 +17,6 @@ pub T-of : (b : Bool) → b ≡ true → T b
 T-of true e = tt
 T-of false e = absurd (let z : _≡_ {A = ℕ} 0 1 = cc in omega arith)
 
-pub of-T : (b : Bool) → T b → b ≡ true
-of-T true t = refl
-of-T false t = absurd t
-
 pub and-true : (b : Bool) → b && true ≡ b
 and-true true = refl
 and-true false = refl

@@ -1,6 +1,6 @@
--- One schedule entry of the fast run: document 01, "Fast run". It holds for every decode cache (the paper's table), also where an entry is not
--- its word's form; refusal 7 keeps that out of runs.
-use mathlib.Core.List.{List}
+-- The fast run's entries: document 01, "Fast run". They are defined for every decode cache (the paper's table): also where an entry is not its
+-- word's form, which refusal 7 keeps out of runs, and for an empty cache, with which they are the plain run's.
+use mathlib.Core.List.{List, [], _∷_}
 use Prim.Native.Nat.{ℕ, _+_}
 use lib.Dec.{eqb}
 use lib.ListN.{getD, set}
@@ -48,3 +48,8 @@ fastStep board x core =
     if isRunning s core then
     (if isInside mem s core then fastFetch x core k (effectOf board mem s core (cachedForm mem (x .cache) k)) else fastFault x core) else
     x
+
+-- "The schedule's entries go in order, each on what the last left."
+unfoldable pub fastFrom : Board → List ℕ → Fast → Fast
+fastFrom board [] x = x
+fastFrom board (core ∷ schedule) x = fastFrom board schedule (fastStep board x core)

@@ -2,23 +2,23 @@
 use mathlib.Core.Bool.{Bool, _||_, not}
 use mathlib.Core.List.{List, [], _∷_}
 use mathlib.Core.Path.{_≡_}
-use Prim.Native.Nat.{ℕ, _+_, _*_, _<_, _≤_}
+use Prim.Native.Nat.{ℕ, _+_, _<_, _≤_}
 use lib.Dec.{eqb, leb}
 use lib.ListN.{length, getD}
 use Rattle.arith.specs.Status.{allowed}
 use Rattle.effect.specs.State.{halted, running}
 use Rattle.effect.specs.declared.types.Inputs.{Inputs}
 use Rattle.semantics.specs.Commit.{coreCount}
-use Rattle.lawful.specs.Accepted.{AllAccepted, multiple}
-use Rattle.engine.specs.Plain.{formAt, plainRun}
+use Rattle.lawful.specs.Accepted.{multiple}
+use Rattle.engine.specs.Plain.{formAt}
 use Rattle.engine.specs.Fast.{Fast, filled, cachedForm}
-use Rattle.engine.specs.History.{History, cachedAtFirst, history}
+use Rattle.engine.specs.History.{History, cachedAtFirst}
 use Rattle.engine.specs.Refusal.{refusalNumber}
 use Rattle.engine.specs.Answer.{plainOf}
 use Rattle.engine.specs.declared.answer.Counts.{Counts}
 use Rattle.engine.specs.declared.answer.Verdict.{Verdict}
 use Rattle.engine.specs.declared.answer.Verdict.the-variants.{Accepted, Refused}
-use Rattle.engine.specs.declared.fast.Fetched.{Fetched}
+use Rattle.engine.specs.declared.steps.Fetched.{Fetched}
 
 -- ---- what is lent and the counts, as what a run has come to
 
@@ -53,21 +53,9 @@ pub record Runnable (s schedule : List ℕ) : Type 0 where
 abbrev pub Right : List ℕ → List ℕ → Type 0
 Right cache mem = (k : ℕ) → k < length cache → (getD cache k 0 ≡ 0 → ⊥) → getD cache k 0 ≡ formAt mem k
 
--- the cache fits its memory
-pub record Fits (x : Fast) : Type 0 where
-  pub words : length (x .cache) * 4 ≡ length (x .plain .memory)
-  pub right : Right (x .cache) (x .plain .memory)
-
 -- a fetch of word k: the entry that is executed, and whether it was there
 abbrev pub fetchedOf : List ℕ → List ℕ → ℕ → Fetched
 fetchedOf mem cache k = record { entry = cachedForm mem cache k; reused = filled (getD cache k 0) }
-
--- what a fast run leaves: x′ of memory mem, states s and cache, where everything was accepted
-pub record FastLeft (mem s schedule cache : List ℕ) (x′ : Fast) : Type 0 where
-  pub same-plain : x′ .plain ≡ plainRun mem s schedule
-  pub same-history : historyOf x′ ≡ history mem s schedule cache
-  pub fits-again : Fits x′
-  pub accepted-again : AllAccepted (x′ .plain .states)
 
 -- ---- the tests
 

@@ -4,3 +4,4 @@ pub mod fast;
 pub mod index;
 pub mod plain;
 pub mod refusal;
+pub mod steps;

@@ -1,7 +1,7 @@
 use mathlib.Core.Path.{sym, ap, _∙_}
 use denote.Ref.{now}
 use Rattle.engine.specs.Invariant.{verdictNumber}
-use Rattle.engine.proofs.Refusals.{fast-runnable, fast-accepted, fast-fits, fast-ran, fast-refused}
+use Rattle.engine.proofs.Refusals.{fast-runnable, fast-ran, fast-refused}
 use borrow.Author.Needs.{needs}
 use Rattle.engine.proofs.fast.fast_run.Statement.{statement}
 use Rattle.engine.proofs.fast.fast_run.Tie as tie
@@ -15,11 +15,7 @@ enum-told c = search needs
 run-requires : tie.Need-run-requires
 run-requires c κs =
     let a = c .before .before .before .before .before .before .before .before .before .before .before .before .before .args in
-    let check-fast = c .before .before .before .before .before .check-fast in
-    let enum-told = c .before .before .before .enum-told in (
-      fast-runnable (now (a .memory)) (now (a .states)) (now (a .schedule)) (now (a .cache)) (sym (check-fast .ensures) ∙ ap verdictNumber (enum-told .given .1)),
-      (fast-accepted (now (a .memory)) (now (a .states)) (now (a .schedule)) (now (a .cache)) (sym (check-fast .ensures) ∙ ap verdictNumber (enum-told .given .1)), fast-fits (now (a .memory)) (now (a .states)) (now (a .schedule)) (now (a .cache)) (sym (check-fast .ensures) ∙ ap verdictNumber (enum-told .given .1)) _),
-    )
+    fast-runnable (now (a .memory)) (now (a .states)) (now (a .schedule)) (now (a .cache)) (sym (c .before .before .before .before .before .check-fast .ensures) ∙ ap verdictNumber (c .before .before .before .enum-told .given .1))
 
 enum-known-verdict : tie.Need-enum-known-verdict
 enum-known-verdict c = search needs

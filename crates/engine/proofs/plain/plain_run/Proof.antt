@@ -12,10 +12,13 @@ check-requires c κs = search needs
 enum-told : tie.Need-enum-told
 enum-told c = search needs
 
+slice-aggregate-run : tie.Need-slice-aggregate-run
+slice-aggregate-run c = search needs
+
 run-requires : tie.Need-run-requires
 run-requires c κs =
-    let a = c .before .before .before .before .before .before .before .before .before .before .args in
-    plain-runnable (now (a .memory)) (now (a .states)) (now (a .schedule)) (sym (c .before .before .before .before .check .ensures) ∙ ap verdictNumber (c .before .before .enum-told .given .1))
+    let a = c .before .before .before .before .before .before .before .before .before .before .before .args in
+    plain-runnable (now (a .memory)) (now (a .states)) (now (a .schedule)) (sym (c .before .before .before .before .before .check .ensures) ∙ ap verdictNumber (c .before .before .before .enum-told .given .1))
 
 enum-known-verdict : tie.Need-enum-known-verdict
 enum-known-verdict c = search needs
@@ -28,9 +31,9 @@ same-length-2 c = search needs
 
 returns : tie.Need-returns
 returns c =
-    let a = c .before .before .before .before .before .before .before .before .before .before .before .before .before .before .before .args in
-    let run = c .before .before .before .before .run in
-    plain-ran (now (a .memory)) (now (a .states)) (now (a .schedule)) _ _ _ (sym (c .before .before .before .before .before .before .before .before .before .check .ensures) ∙ ap verdictNumber (c .before .before .before .before .before .before .before .enum-told .given .1)) (run .ensures .0) (run .ensures .1) (run .ensures .2)
+    let a = c .before .before .before .before .before .before .before .before .before .before .before .before .before .before .before .before .before .args in
+    let run = c .before .before .before .before .before .run in
+    plain-ran (now (a .memory)) (now (a .states)) (now (a .schedule)) _ _ _ _ (sym (c .before .before .before .before .before .before .before .before .before .before .before .check .ensures) ∙ ap verdictNumber (c .before .before .before .before .before .before .before .before .before .enum-told .given .1)) (run .ensures .0) (run .ensures .1)
 
 same-length-3 : tie.Need-same-length-3
 same-length-3 c = search needs
@@ -49,6 +52,7 @@ plain-run-spec =
     (tie.spec
     check-requires
     enum-told
+    slice-aggregate-run
     run-requires
     enum-known-verdict
     same-length

@@ -1,19 +1,20 @@
-use mathlib.Core.Path.{_≡_, refl, _∙_}
+use mathlib.Core.Path.{_≡_, refl, sym, ap, _∙_}
 use native.Mathlib.Omega.{arith}
-use lib.ListN.{length}
+use lib.ListN.{length, drop}
 use Prim.Native.Nat.{_-_, _≤_}
 use Rattle.engine.specs.Plain.{boardOf}
+use Rattle.engine.specs.Fast.{fastStep, fastFrom}
 use Rattle.engine.specs.Answer.{noCounts, AtMost}
 use Rattle.engine.specs.Invariant.{fastOf}
-use Rattle.engine.proofs.Steps.{grown}
-use Rattle.engine.proofs.Schedule.{Going, going-first, going-on, going-end}
+use Rattle.engine.proofs.Cases.{grown}
+use Rattle.engine.proofs.Schedule.{from-next, from-end}
 use borrow.Author.Needs.{needs}
-use Rattle.engine.proofs.fast.run.Statement.{statement}
-use Rattle.engine.proofs.fast.run.Tie as tie
+use Rattle.engine.proofs.steps.run.Statement.{statement}
+use Rattle.engine.proofs.steps.run.Tie as tie
 
 abbrev Inv-loop : tie.InvT-loop
 Inv-loop memory₀ states₀ schedule cache₀ cores board counts₀ i₀ memory states cache counts i =
-    Going (boardOf states₀) schedule (fastOf memory₀ states₀ cache₀ noCounts) i (fastOf memory states cache counts) × AtMost i counts × (i ≤ length schedule) × (length memory ≡ length memory₀) × (length states ≡ length states₀) × (length cache ≡ length cache₀)
+    (fastFrom (boardOf states₀) (drop i schedule) (fastOf memory states cache counts) ≡ fastFrom (boardOf states₀) schedule (fastOf memory₀ states₀ cache₀ noCounts)) × AtMost i counts × (i ≤ length schedule) × (length memory ≡ length memory₀) × (length states ≡ length states₀) × (length cache ≡ length cache₀)
 
 abbrev μ-loop : tie.MeasureT-loop
 μ-loop memory₀ states₀ schedule cache₀ cores board counts₀ i₀ memory states cache counts i = length schedule - i
@@ -23,14 +24,7 @@ cast-t11 c = search needs
 
 loop-holds : tie.Need-loop-holds Inv-loop μ-loop
 loop-holds c =
-    let p = c .before .before .before .before .pre in (
-      going-first _ _ _ (p .1 .1) (p .1 .0),
-      record { executed-le = omega arith; raised-le = omega arith; reused-le = omega arith },
-      omega arith,
-      refl,
-      refl,
-      refl,
-    )
+    (refl, record { executed-le = omega arith; raised-le = omega arith; reused-le = omega arith }, omega arith, refl, refl, refl)
 
 shared-slice-read-of-u8 : tie.Need-shared-slice-read-of-u8 Inv-loop μ-loop
 shared-slice-read-of-u8 c = search needs
@@ -38,12 +32,10 @@ shared-slice-read-of-u8 c = search needs
 of-u8-requires : tie.Need-of-u8-requires Inv-loop μ-loop
 of-u8-requires c κs = search needs
 
-fast-step-requires : tie.Need-fast-step-requires Inv-loop μ-loop
-fast-step-requires c κs =
-    let l = c .before .before .before .before .before .before .loop in
-    let n = c .before .before .before .before .before .before .before .before .before .before .before .pre .0 .names-cores (l .i) (c .before .before .before .before .before .loop-test .taken) in
-    let w = l .inv .0 .fits .words in
-    (omega arith, (omega arith, (w, record { executed-le = omega arith; raised-le = omega arith; reused-le = omega arith })))
+step-requires : tie.Need-step-requires Inv-loop μ-loop
+step-requires c κs =
+    let n = c .before .before .before .before .before .before .before .before .before .before .before .pre .names-cores (c .before .before .before .before .before .before .loop .i) (c .before .before .before .before .before .loop-test .taken) in
+    (omega arith, (omega arith, record { executed-le = omega arith; raised-le = omega arith; reused-le = omega arith }))
 
 add-i : tie.Need-add-i Inv-loop μ-loop
 add-i c = search needs
@@ -55,9 +47,10 @@ loop-again : tie.Need-loop-again Inv-loop μ-loop
 loop-again c =
     let loop-test = c .before .before .before .before .before .before .before .before .before .before .before .before .loop-test in
     let l = c .before .before .before .before .before .before .before .before .before .before .before .before .before .loop in
-    let f = c .before .before .before .before .before .before .fast-step in
-    let n = c .before .before .before .before .before .before .before .before .before .before .before .before .before .before .before .before .before .before .pre .0 .names-cores (l .i) (loop-test .taken) in (
-      going-on _ _ _ (l .i) (l .inv .0) (loop-test .taken) (c .before .before .before .before .before .before .before .before .before .before .of-u8 .ensures) (omega arith) (f .ensures .0),
+    let f = c .before .before .before .before .before .before .step in (
+      ap (fastFrom _ _) (f .ensures .0 ∙ ap (fastStep _ _) (c .before .before .before .before .before .before .before .before .before .before .of-u8 .ensures))
+          ∙ sym (from-next _ _ (l .i) _ (loop-test .taken))
+          ∙ l .inv .0,
       grown (l .i) (l .inv .1) (f .ensures .1),
       omega arith,
       f .kept .1 .0 ∙ l .inv .3,
@@ -77,7 +70,7 @@ same-length-3 c = c .before .loop .inv .5
 returns : tie.Need-returns Inv-loop μ-loop
 returns c =
     let l = c .before .loop in (
-      going-end _ _ _ _ (l .i) (l .inv .0) (c .loop-test .left),
+      sym (from-end _ _ (l .i) _ (c .loop-test .left)) ∙ l .inv .0,
       record { executed-le = omega arith; raised-le = omega arith; reused-le = omega arith },
     )
 
@@ -91,7 +84,7 @@ run-spec =
     loop-holds
     shared-slice-read-of-u8
     of-u8-requires
-    fast-step-requires
+    step-requires
     add-i
     loop-less
     loop-again

@@ -1,8 +1,8 @@
 use mathlib.Core.Path.{refl}
 use native.Mathlib.Omega.{arith}
 use borrow.Author.Needs.{needs}
-use Rattle.engine.proofs.plain.counted.Statement.{statement}
-use Rattle.engine.proofs.plain.counted.Tie as tie
+use Rattle.engine.proofs.steps.counted.Statement.{statement}
+use Rattle.engine.proofs.steps.counted.Tie as tie
 
 add-t4 : tie.Need-add-t4
 add-t4 c = search needs
