@@ -3,7 +3,8 @@ ghost use mathlib.Core.Path.{_≡_};
 ghost use lib.ListN.{length};
 ghost use Rattle.memory.specs.Memory.{Width};
 ghost use Rattle.effect.specs.Effect.{effectiveAddress, load as loadOf, loadLinked, storing as storingOf, store as storeOf, linked as linkedOf, storeConditional, touch as touchOf, noLink, noStore};
-ghost use Rattle.effect.specs.Action.{effectBy, saves};
+ghost use Rattle.bits.specs.Word.{bit};
+ghost use Rattle.effect.specs.Action.{effectBy, saves, links, unlinks};
 ghost use Rattle.bits.specs.Choice.{if_then_else_};
 use crate::completed;
 use crate::raised;
@@ -11,6 +12,7 @@ use crate::types::Action;
 use crate::types::Effect;
 use crate::types::Inputs;
 use crate::types::Link;
+use crate::types::Linked;
 use crate::types::Store;
 use isa::vectors::Cause;
 use memory::Access;
@@ -28,9 +30,28 @@ pub fn load(x: Inputs, mem: &[u8], width: u32, signed: bool) -> Action
     let at = address(x);
     match memory::test(mem.len(), at, width) {
         Access::Granted => completed::write(x, memory::load_extended(mem, at, width, signed)),
-        Access::Misaligned => Action::Whole(raised::fault(x, Cause::Alignment, at)),
-        Access::BusError => Action::Whole(raised::fault(x, Cause::Bus, at)),
+        Access::Misaligned => raised::fault(Cause::Alignment, at),
+        Access::BusError => raised::fault(Cause::Bus, at),
     }
+}
+
+// The effect of l.lwa once its access is granted.
+pub fn load_linked_effect(x: Inputs, l: Linked) -> Effect
+    ensures { λ r. ⌜ r ≡ links x l ⌝ }
+{
+    let link = Link {
+        held: 1,
+        address: l.address,
+    };
+    completed::complete(
+        l.place,
+        l.value,
+        x.sr,
+        completed::onward(x),
+        link,
+        3,
+        completed::no_store(),
+    )
 }
 
 // l.lwa.
@@ -39,24 +60,13 @@ pub fn load_linked(x: Inputs, mem: &[u8]) -> Action
 {
     let at = address(x);
     match memory::test(mem.len(), at, 4) {
-        Access::Granted => {
-            let link = Link {
-                held: 1,
-                address: at,
-            };
-            let value = memory::load(mem, at, 4);
-            Action::Whole(completed::complete(
-                x.d,
-                value,
-                x.sr,
-                completed::onward(x),
-                link,
-                3,
-                completed::no_store(),
-            ))
-        }
-        Access::Misaligned => Action::Whole(raised::fault(x, Cause::Alignment, at)),
-        Access::BusError => Action::Whole(raised::fault(x, Cause::Bus, at)),
+        Access::Granted => Action::LoadLinked(Linked {
+            place: x.d,
+            value: memory::load(mem, at, 4),
+            address: at,
+        }),
+        Access::Misaligned => raised::fault(Cause::Alignment, at),
+        Access::BusError => raised::fault(Cause::Bus, at),
     }
 }
 
@@ -85,8 +95,8 @@ pub fn store(x: Inputs, len: usize, width: u32) -> Action
     let at = address(x);
     match memory::test(len, at, width) {
         Access::Granted => Action::Save(storing(x, width)),
-        Access::Misaligned => Action::Whole(raised::fault(x, Cause::Alignment, at)),
-        Access::BusError => Action::Whole(raised::fault(x, Cause::Bus, at)),
+        Access::Misaligned => raised::fault(Cause::Alignment, at),
+        Access::BusError => raised::fault(Cause::Bus, at),
     }
 }
 
@@ -110,14 +120,21 @@ fn no_link() -> Link
     }
 }
 
-// What l.swa stores.
-fn conditional(x: Inputs, t: bool) -> Store
-    ensures { λ r. ⌜ r ≡ (if t then storingOf x 4 else noStore) ⌝ }
+// The effect of l.swa once its access is granted: `t` if its link was to that word.
+pub fn store_conditional_effect(x: Inputs, t: bool, store: Store) -> Effect
+    ensures { λ r. ⌜ r ≡ unlinks x (bit t) store ⌝ }
 {
-    if t {
-        return storing(x, 4);
+    let sr = arith::set_flag(x.sr, t);
+    completed::complete(0, 0, sr, completed::onward(x), no_link(), 3, store)
+}
+
+fn conditional(x: Inputs) -> Action
+    ensures { λ r. ⌜ effectBy x r ≡ unlinks x (bit (linkedOf x)) (if linkedOf x then storingOf x 4 else noStore) ⌝ }
+{
+    if linked(x) {
+        return Action::SaveLinked(storing(x, 4));
     }
-    completed::no_store()
+    Action::SaveUnlinked
 }
 
 // l.swa.
@@ -126,20 +143,9 @@ pub fn store_conditional(x: Inputs, len: usize) -> Action
 {
     let at = address(x);
     match memory::test(len, at, 4) {
-        Access::Granted => {
-            let t = linked(x);
-            Action::Whole(completed::complete(
-                0,
-                0,
-                arith::set_flag(x.sr, t),
-                completed::onward(x),
-                no_link(),
-                3,
-                conditional(x, t),
-            ))
-        }
-        Access::Misaligned => Action::Whole(raised::fault(x, Cause::Alignment, at)),
-        Access::BusError => Action::Whole(raised::fault(x, Cause::Bus, at)),
+        Access::Granted => conditional(x),
+        Access::Misaligned => raised::fault(Cause::Alignment, at),
+        Access::BusError => raised::fault(Cause::Bus, at),
     }
 }
 
@@ -150,7 +156,7 @@ pub fn touch(x: Inputs, len: usize) -> Action
     let at = address(x);
     match memory::test(len, at, 1) {
         Access::Granted => completed::nothing(x),
-        Access::Misaligned => Action::Whole(raised::fault(x, Cause::Alignment, at)),
-        Access::BusError => Action::Whole(raised::fault(x, Cause::Bus, at)),
+        Access::Misaligned => raised::fault(Cause::Alignment, at),
+        Access::BusError => raised::fault(Cause::Bus, at),
     }
 }

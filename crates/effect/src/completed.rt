@@ -2,7 +2,7 @@
 ghost use mathlib.Core.Path.{_≡_};
 ghost use Rattle.effect.specs.Effect.{onward as onwardOf, advances as advancesOf, writes as writesOf, nothing as nothingOf, setsFlag, nop as nopOf, inSlot, noStore};
 ghost use Rattle.effect.specs.Effect.{completed as completedOf};
-ghost use Rattle.effect.specs.Action.{effectBy};
+ghost use Rattle.effect.specs.Action.{effectBy, halts};
 ghost use Rattle.effect.specs.declared.types.Inputs.{Inputs};
 use crate::types::Action;
 use crate::types::Effect;
@@ -104,13 +104,20 @@ pub fn set_flag(x: Inputs, t: bool) -> Action
     advance(0, 0, arith::set_flag(x.sr, t))
 }
 
+// The effect of a halt.
+pub fn halted(x: Inputs) -> Effect
+    ensures { λ r. ⌜ r ≡ halts x ⌝ }
+{
+    let link = x.link;
+    complete(0, 0, x.sr, onward(x), link, 0, no_store())
+}
+
 // l.nop 1 halts its core.
 pub fn nop(x: Inputs) -> Action
     ensures { λ r. ⌜ effectBy x r ≡ nopOf x ⌝ }
 {
     if x.immediate == 1 {
-        let link = x.link;
-        return Action::Whole(complete(0, 0, x.sr, onward(x), link, 0, no_store()));
+        return Action::Halt;
     }
     nothing(x)
 }

@@ -1,7 +1,7 @@
 // Jumps, branches and the return from an exception: illegal in a delay slot.
 ghost use mathlib.Core.Path.{_≡_};
 ghost use Rattle.effect.specs.Effect.{jumping as jumpingOf, jump as jumpOf, relative as relativeOf, afterSlot, branch as branchOf, registerJump, returns};
-ghost use Rattle.effect.specs.Action.{effectBy};
+ghost use Rattle.effect.specs.Action.{effectBy, goesBack};
 ghost use Rattle.effect.specs.declared.types.Inputs.{Inputs};
 use crate::completed;
 use crate::raised;
@@ -75,9 +75,22 @@ pub fn register_jump(x: Inputs, place: u32, value: u32) -> Action
         return raised::illegal(x);
     }
     if 0 < x.b % 4 {
-        return Action::Whole(raised::fault(x, Cause::Alignment, x.b));
+        return raised::fault(Cause::Alignment, x.b);
     }
     jumping(place, value, x.b)
+}
+
+// The effect of l.rfe outside a slot.
+pub fn returned(x: Inputs) -> Effect
+    ensures { λ r. ⌜ r ≡ goesBack x ⌝ }
+{
+    let flow = Flow {
+        pc: x.epcr,
+        delay: 0,
+        target: 0,
+    };
+    let link = x.link;
+    completed::complete(0, 0, x.esr, flow, link, 3, completed::no_store())
 }
 
 pub fn return_from_exception(x: Inputs) -> Action
@@ -86,11 +99,5 @@ pub fn return_from_exception(x: Inputs) -> Action
     if completed::in_slot(x) {
         return raised::illegal(x);
     }
-    let flow = Flow {
-        pc: x.epcr,
-        delay: 0,
-        target: 0,
-    };
-    let link = x.link;
-    Action::Whole(completed::complete(0, 0, x.esr, flow, link, 3, completed::no_store()))
+    Action::Return
 }

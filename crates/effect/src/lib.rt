@@ -1,5 +1,6 @@
 // One instruction, as an effect by value.
 pub mod accesses;
+pub mod action;
 pub mod completed;
 pub mod jumps;
 pub mod raised;

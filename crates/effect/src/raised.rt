@@ -1,17 +1,20 @@
 // Instructions that raise an exception.
 ghost use mathlib.Core.Path.{_≡_};
 ghost use Rattle.effect.specs.Effect.{restart as restartOf, raises, faults, illegal as illegalOf, trap as trapOf, syscall as syscallOf, inSlot};
-ghost use Rattle.effect.specs.Action.{effectBy};
+ghost use Rattle.effect.specs.Action.{effectBy, overflows, calls};
+ghost use Rattle.effect.specs.declared.types.Inputs.{Inputs};
 ghost use Prim.Native.Nat.{_<_};
 ghost use Rattle.bits.specs.Word.{bit};
 use crate::completed;
 use crate::types::Action;
 use crate::types::Effect;
 use crate::types::Exception;
+use crate::types::Faulted;
 use crate::types::Flow;
 use crate::types::Inputs;
 use crate::types::Link;
 use crate::types::Outcome;
+use crate::types::Written;
 use isa::vectors;
 use isa::vectors::Cause;
 
@@ -69,22 +72,45 @@ pub fn raise(
     }
 }
 
-pub fn fault(x: Inputs, cause: Cause, eear: u32) -> Effect
-    ensures { λ r. ⌜ r ≡ faults x cause eear ⌝ }
+// The effect of a fault.
+pub fn faulted(x: Inputs, f: Faulted) -> Effect
+    ensures { λ r. ⌜ r ≡ faults x (f .cause) (f .eear) ⌝ }
 {
-    raise(x, 0, 0, x.sr, cause, restart(x), eear)
+    let cause = f.cause;
+    raise(x, 0, 0, x.sr, cause, restart(x), f.eear)
+}
+
+// The effect of an overflow, once rD and SR are written.
+pub fn overflowed(x: Inputs, w: Written) -> Effect
+    ensures { λ r. ⌜ r ≡ overflows x w ⌝ }
+{
+    raise(x, w.place, w.value, w.sr, Cause::Range, restart(x), x.eear)
+}
+
+// The effect of l.sys outside a slot.
+pub fn called(x: Inputs) -> Effect
+    ensures { λ r. ⌜ r ≡ calls x ⌝ }
+{
+    let next = arith::address_add(x.flow.pc, 4);
+    raise(x, 0, 0, x.sr, Cause::Syscall, next, x.eear)
+}
+
+pub fn fault(cause: Cause, eear: u32) -> Action
+    ensures { λ r. ⌜ ((x : Inputs) → effectBy x r ≡ faults x cause eear) ⌝ }
+{
+    Action::Fault(Faulted { cause, eear })
 }
 
 pub fn illegal(x: Inputs) -> Action
     ensures { λ r. ⌜ effectBy x r ≡ illegalOf x ⌝ }
 {
-    Action::Whole(fault(x, Cause::Illegal, x.flow.pc))
+    fault(Cause::Illegal, x.flow.pc)
 }
 
 pub fn trap(x: Inputs) -> Action
     ensures { λ r. ⌜ effectBy x r ≡ trapOf x ⌝ }
 {
-    Action::Whole(fault(x, Cause::Trap, x.eear))
+    fault(Cause::Trap, x.eear)
 }
 
 pub fn syscall(x: Inputs) -> Action
@@ -93,13 +119,5 @@ pub fn syscall(x: Inputs) -> Action
     if completed::in_slot(x) {
         return illegal(x);
     }
-    Action::Whole(raise(
-        x,
-        0,
-        0,
-        x.sr,
-        Cause::Syscall,
-        arith::address_add(x.flow.pc, 4),
-        x.eear,
-    ))
+    Action::Call
 }

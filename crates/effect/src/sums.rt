@@ -8,11 +8,10 @@ ghost use Rattle.arith.specs.Status.{OVE};
 ghost use Rattle.effect.specs.Effect.{flags as flagsOf, sums, sumsOrRaises};
 ghost use Rattle.effect.specs.Action.{effectBy};
 use crate::completed;
-use crate::raised;
 use crate::types::Action;
 use crate::types::Inputs;
+use crate::types::Written;
 use arith::Flagged;
-use isa::vectors::Cause;
 
 // SR with the flags of f.
 fn flags(x: Inputs, f: Flagged) -> u32
@@ -45,15 +44,11 @@ pub fn sum_or_raise(x: Inputs, f: Flagged) -> Action
     ensures { λ r. ⌜ effectBy x r ≡ sumsOrRaises x f ⌝ }
 {
     if out_of_range(x, f) {
-        return Action::Whole(raised::raise(
-            x,
-            x.d,
-            f.value,
-            flags(x, f),
-            Cause::Range,
-            raised::restart(x),
-            x.eear,
-        ));
+        return Action::Overflow(Written {
+            place: x.d,
+            value: f.value,
+            sr: flags(x, f),
+        });
     }
     sum(x, f)
 }

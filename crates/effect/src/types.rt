@@ -80,10 +80,30 @@ pub struct Jumped {
     pub target: u32,
 }
 
-// An effect in the form in which it is committed: what most instructions leave as it is need not be handed on.
+// An exception that an instruction raises before it writes anything.
+pub struct Faulted {
+    pub cause: Cause,
+    pub eear: u32,
+}
+
+// What l.lwa loads, and from where.
+pub struct Linked {
+    pub place: u32,
+    pub value: u32,
+    pub address: u32,
+}
+
+// What an instruction does, in as few words as say it: the rest of its effect follows from what it read.
 pub enum Action {
     Advance(Written),
     Jump(Jumped),
     Save(Store),
-    Whole(Effect),
+    Fault(Faulted),
+    Overflow(Written),
+    Call,
+    Return,
+    Halt,
+    LoadLinked(Linked),
+    SaveLinked(Store),
+    SaveUnlinked,
 }

@@ -2,136 +2,126 @@
 ghost use mathlib.Core.Path.{_≡_};
 ghost use Prim.Native.Nat.{_+_, _*_, _≤_, _<_};
 ghost use lib.ListN.{length};
-ghost use Rattle.isa.specs.Parts.{Registers};
+ghost use Rattle.isa.specs.Parts.{fieldsOf};
 ghost use Rattle.effect.specs.Action.{effectBy};
 ghost use Rattle.semantics.specs.Meaning.{control as controlOf, loads, immediates, compareImmediates, stores as storesOf, registers, compares, caches, meaning};
 ghost use Rattle.semantics.specs.Commit.{inputs};
-use crate::inputs_of;
+use crate::inputs_at;
 use effect::types::Action;
 use effect::types::Board;
-use isa::entry::Fields;
 
 // Each group reads its inputs itself, so that nothing is read that its instructions do not use.
-fn control(states: &[u32], core: usize, kind: u8, f: Fields) -> Action
+fn control(states: &[u32], core: usize, kind: u8, entry: u64) -> Action
     requires { ⌜ core * 42 + 42 ≤ length (now states) ⌝ }
-    requires { ⌜ Registers f ⌝ }
     requires { ⌜ core < 4 ⌝ }
-    ensures { λ r. ⌜ effectBy (inputs (now (states .entry)) core f) r ≡ controlOf kind (inputs (now (states .entry)) core f) ⌝ }
+    ensures { λ r. ⌜ effectBy (inputs (now (states .entry)) core (fieldsOf entry)) r ≡ controlOf kind (inputs (now (states .entry)) core (fieldsOf entry)) ⌝ }
 {
-    let x = inputs_of(states, core, f);
+    let x = inputs_at(states, core, entry);
     semantics::control(kind, x)
 }
 
-fn load(memory: &[u8], states: &[u32], core: usize, kind: u8, f: Fields) -> Action
+fn load(memory: &[u8], states: &[u32], core: usize, kind: u8, entry: u64) -> Action
     requires { ⌜ core * 42 + 42 ≤ length (now states) ⌝ }
-    requires { ⌜ Registers f ⌝ }
     requires { ⌜ core < 4 ⌝ }
-    ensures { λ r. ⌜ effectBy (inputs (now (states .entry)) core f) r ≡ loads (now (memory .entry)) kind (inputs (now (states .entry)) core f) ⌝ }
+    ensures { λ r. ⌜ effectBy (inputs (now (states .entry)) core (fieldsOf entry)) r ≡ loads (now (memory .entry)) kind (inputs (now (states .entry)) core (fieldsOf entry)) ⌝ }
 {
-    let x = inputs_of(states, core, f);
+    let x = inputs_at(states, core, entry);
     semantics::load(memory, kind, x)
 }
 
-fn immediate(board: Board, states: &[u32], core: usize, kind: u8, f: Fields) -> Action
+fn immediate(board: Board, states: &[u32], core: usize, kind: u8, entry: u64) -> Action
     requires { ⌜ core * 42 + 42 ≤ length (now states) ⌝ }
-    requires { ⌜ Registers f ⌝ }
     requires { ⌜ core < 4 ⌝ }
-    ensures { λ r. ⌜ effectBy (inputs (now (states .entry)) core f) r ≡ immediates board kind (inputs (now (states .entry)) core f) ⌝ }
+    ensures { λ r. ⌜ effectBy (inputs (now (states .entry)) core (fieldsOf entry)) r ≡ immediates board kind (inputs (now (states .entry)) core (fieldsOf entry)) ⌝ }
 {
-    let x = inputs_of(states, core, f);
+    let x = inputs_at(states, core, entry);
     semantics::immediate(board, kind, x)
 }
 
-fn compare_immediate(states: &[u32], core: usize, kind: u8, f: Fields) -> Action
+fn compare_immediate(states: &[u32], core: usize, kind: u8, entry: u64) -> Action
     requires { ⌜ core * 42 + 42 ≤ length (now states) ⌝ }
-    requires { ⌜ Registers f ⌝ }
     requires { ⌜ core < 4 ⌝ }
-    ensures { λ r. ⌜ effectBy (inputs (now (states .entry)) core f) r ≡ compareImmediates kind (inputs (now (states .entry)) core f) ⌝ }
+    ensures { λ r. ⌜ effectBy (inputs (now (states .entry)) core (fieldsOf entry)) r ≡ compareImmediates kind (inputs (now (states .entry)) core (fieldsOf entry)) ⌝ }
 {
-    let x = inputs_of(states, core, f);
+    let x = inputs_at(states, core, entry);
     semantics::compare_immediate(kind, x)
 }
 
-fn store(len: usize, states: &[u32], core: usize, kind: u8, f: Fields) -> Action
+fn store(len: usize, states: &[u32], core: usize, kind: u8, entry: u64) -> Action
     requires { ⌜ core * 42 + 42 ≤ length (now states) ⌝ }
-    requires { ⌜ Registers f ⌝ }
     requires { ⌜ core < 4 ⌝ }
-    ensures { λ r. ⌜ effectBy (inputs (now (states .entry)) core f) r ≡ storesOf len kind (inputs (now (states .entry)) core f) ⌝ }
+    ensures { λ r. ⌜ effectBy (inputs (now (states .entry)) core (fieldsOf entry)) r ≡ storesOf len kind (inputs (now (states .entry)) core (fieldsOf entry)) ⌝ }
 {
-    let x = inputs_of(states, core, f);
+    let x = inputs_at(states, core, entry);
     semantics::store(len, kind, x)
 }
 
-fn register(states: &[u32], core: usize, kind: u8, f: Fields) -> Action
+fn register(states: &[u32], core: usize, kind: u8, entry: u64) -> Action
     requires { ⌜ core * 42 + 42 ≤ length (now states) ⌝ }
-    requires { ⌜ Registers f ⌝ }
     requires { ⌜ core < 4 ⌝ }
-    ensures { λ r. ⌜ effectBy (inputs (now (states .entry)) core f) r ≡ registers kind (inputs (now (states .entry)) core f) ⌝ }
+    ensures { λ r. ⌜ effectBy (inputs (now (states .entry)) core (fieldsOf entry)) r ≡ registers kind (inputs (now (states .entry)) core (fieldsOf entry)) ⌝ }
 {
-    let x = inputs_of(states, core, f);
+    let x = inputs_at(states, core, entry);
     semantics::register(kind, x)
 }
 
-fn compare(states: &[u32], core: usize, kind: u8, f: Fields) -> Action
+fn compare(states: &[u32], core: usize, kind: u8, entry: u64) -> Action
     requires { ⌜ core * 42 + 42 ≤ length (now states) ⌝ }
-    requires { ⌜ Registers f ⌝ }
     requires { ⌜ core < 4 ⌝ }
-    ensures { λ r. ⌜ effectBy (inputs (now (states .entry)) core f) r ≡ compares kind (inputs (now (states .entry)) core f) ⌝ }
+    ensures { λ r. ⌜ effectBy (inputs (now (states .entry)) core (fieldsOf entry)) r ≡ compares kind (inputs (now (states .entry)) core (fieldsOf entry)) ⌝ }
 {
-    let x = inputs_of(states, core, f);
+    let x = inputs_at(states, core, entry);
     semantics::compare(kind, x)
 }
 
-fn cache(len: usize, states: &[u32], core: usize, kind: u8, f: Fields) -> Action
+fn cache(len: usize, states: &[u32], core: usize, kind: u8, entry: u64) -> Action
     requires { ⌜ core * 42 + 42 ≤ length (now states) ⌝ }
-    requires { ⌜ Registers f ⌝ }
     requires { ⌜ core < 4 ⌝ }
-    ensures { λ r. ⌜ effectBy (inputs (now (states .entry)) core f) r ≡ caches len kind (inputs (now (states .entry)) core f) ⌝ }
+    ensures { λ r. ⌜ effectBy (inputs (now (states .entry)) core (fieldsOf entry)) r ≡ caches len kind (inputs (now (states .entry)) core (fieldsOf entry)) ⌝ }
 {
-    let x = inputs_of(states, core, f);
+    let x = inputs_at(states, core, entry);
     semantics::cache(len, kind, x)
 }
 
-// The action of a kind with the fields f. The tests halve the groups, so that none is deep.
+// The action of a kind in an entry. The tests halve the groups, so that none is deep.
 pub fn action_of(
     board: Board,
     memory: &[u8],
     states: &[u32],
     core: usize,
     kind: u8,
-    f: Fields,
+    entry: u64,
 ) -> Action
     requires { ⌜ core * 42 + 42 ≤ length (now states) ⌝ }
-    requires { ⌜ Registers f ⌝ }
     requires { ⌜ core < 4 ⌝ }
-    ensures { λ r. ⌜ effectBy (inputs (now (states .entry)) core f) r ≡ meaning board (now (memory .entry)) kind (inputs (now (states .entry)) core f) ⌝ }
+    ensures { λ r. ⌜ effectBy (inputs (now (states .entry)) core (fieldsOf entry)) r ≡ meaning board (now (memory .entry)) kind (inputs (now (states .entry)) core (fieldsOf entry)) ⌝ }
 {
     if kind < 43 {
         if kind < 23 {
             if kind < 16 {
-                control(states, core, kind, f)
+                control(states, core, kind, entry)
             } else {
-                load(memory, states, core, kind, f)
+                load(memory, states, core, kind, entry)
             }
         } else {
             if kind < 33 {
-                immediate(board, states, core, kind, f)
+                immediate(board, states, core, kind, entry)
             } else {
-                compare_immediate(states, core, kind, f)
+                compare_immediate(states, core, kind, entry)
             }
         }
     } else {
         if kind < 67 {
             if kind < 48 {
-                store(memory.len(), states, core, kind, f)
+                store(memory.len(), states, core, kind, entry)
             } else {
-                register(states, core, kind, f)
+                register(states, core, kind, entry)
             }
         } else {
             if kind < 77 {
-                compare(states, core, kind, f)
+                compare(states, core, kind, entry)
             } else {
-                cache(memory.len(), states, core, kind, f)
+                cache(memory.len(), states, core, kind, entry)
             }
         }
     }

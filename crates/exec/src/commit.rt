@@ -2,22 +2,23 @@
 ghost use mathlib.Core.Path.{_≡_};
 ghost use Prim.Native.Nat.{_+_, _*_, _≤_, _<_};
 ghost use lib.ListN.{length};
-ghost use Rattle.effect.specs.Action.{effectBy};
-ghost use Rattle.effect.specs.declared.types.Inputs.{Inputs};
 ghost use Rattle.semantics.specs.Commit.{putValue, putFlow, putStatus, putException, ownState, clearLink, clearLinks, coreCount};
 ghost use Rattle.lawful.specs.Sound.{Sound};
-ghost use Rattle.exec.specs.Report.{raisedBy, Executed};
+ghost use Rattle.exec.specs.Report.{raisedBy, actionEffect, Owned, Executed};
 use crate::Done;
 use crate::STATE_WORDS;
+use crate::inputs_at;
 use effect::accesses;
+use effect::action;
 use effect::completed;
 use effect::jumps;
 use effect::types::Action;
 use effect::types::Effect;
 use effect::types::Exception;
-use effect::types::Inputs;
+use effect::types::Jumped;
 use effect::types::Outcome;
 use effect::types::Store;
+use effect::types::Written;
 
 // The register, or special-purpose register, that an effect writes; r0 is dropped.
 fn put_value(states: &mut [u32], core: usize, e: Effect)
@@ -89,29 +90,58 @@ pub fn commit_state(states: &mut [u32], core: usize, e: Effect) -> u32
     put_exception(states, core, e)
 }
 
-// The core's own state, as its action leaves it; answers how many exceptions were raised.
-fn commit_own(states: &mut [u32], core: usize, x: Inputs, action: Action) -> u32
+// Each of these reads its inputs itself, so that nothing is read that its action does not use. The three frequent actions come first.
+fn own_advance(states: &mut [u32], core: usize, entry: u64, w: Written) -> u32
     requires { ⌜ core * 42 + 42 ≤ length (now states) ⌝ }
-    requires { ⌜ effectBy x action .place < 42 ⌝ }
-    ensures { λ r. ⌜ (now (states .exit) ≡ ownState (now (states .entry)) core (effectBy x action)) × (r ≡ raisedBy (effectBy x action .outcome)) ⌝ }
+    requires { ⌜ core < 4 ⌝ }
+    requires { ⌜ w .place < 42 ⌝ }
+    ensures { λ r. ⌜ Owned (now (states .entry)) core (actionEffect (now (states .entry)) core entry (Action.Advance w)) (now (states .exit)) r ⌝ }
 {
-    match action {
-        Action::Advance(w) => commit_state(states, core, completed::advanced(x, w)),
-        Action::Jump(j) => commit_state(states, core, jumps::jumped(x, j)),
-        Action::Save(s) => commit_state(states, core, accesses::saved(x, s)),
-        Action::Whole(e) => commit_state(states, core, e),
-    }
+    let x = inputs_at(states, core, entry);
+    commit_state(states, core, completed::advanced(x, w))
 }
 
-// What an action stores.
-fn store_of(action: Action) -> Store
-    ensures { λ r. ⌜ ((x : Inputs) → r ≡ effectBy x action .store) ⌝ }
+fn own_jump(states: &mut [u32], core: usize, entry: u64, j: Jumped) -> u32
+    requires { ⌜ core * 42 + 42 ≤ length (now states) ⌝ }
+    requires { ⌜ core < 4 ⌝ }
+    requires { ⌜ j .place < 42 ⌝ }
+    ensures { λ r. ⌜ Owned (now (states .entry)) core (actionEffect (now (states .entry)) core entry (Action.Jump j)) (now (states .exit)) r ⌝ }
+{
+    let x = inputs_at(states, core, entry);
+    commit_state(states, core, jumps::jumped(x, j))
+}
+
+fn own_save(states: &mut [u32], core: usize, entry: u64, s: Store) -> u32
+    requires { ⌜ core * 42 + 42 ≤ length (now states) ⌝ }
+    requires { ⌜ core < 4 ⌝ }
+    ensures { λ r. ⌜ Owned (now (states .entry)) core (actionEffect (now (states .entry)) core entry (Action.Save s)) (now (states .exit)) r ⌝ }
+{
+    let x = inputs_at(states, core, entry);
+    commit_state(states, core, accesses::saved(x, s))
+}
+
+fn own_other(states: &mut [u32], core: usize, entry: u64, a: Action) -> u32
+    requires { ⌜ core * 42 + 42 ≤ length (now states) ⌝ }
+    requires { ⌜ core < 4 ⌝ }
+    requires { ⌜ actionEffect (now states) core entry a .place < 42 ⌝ }
+    ensures { λ r. ⌜ Owned (now (states .entry)) core (actionEffect (now (states .entry)) core entry a) (now (states .exit)) r ⌝ }
+{
+    let x = inputs_at(states, core, entry);
+    commit_state(states, core, action::effect_by(x, a))
+}
+
+// The core's own state, as its action leaves it; answers how many exceptions were raised.
+fn commit_own(states: &mut [u32], core: usize, entry: u64, action: Action) -> u32
+    requires { ⌜ core * 42 + 42 ≤ length (now states) ⌝ }
+    requires { ⌜ core < 4 ⌝ }
+    requires { ⌜ actionEffect (now states) core entry action .place < 42 ⌝ }
+    ensures { λ r. ⌜ Owned (now (states .entry)) core (actionEffect (now (states .entry)) core entry action) (now (states .exit)) r ⌝ }
 {
     match action {
-        Action::Advance(_) => completed::no_store(),
-        Action::Jump(_) => completed::no_store(),
-        Action::Save(s) => s,
-        Action::Whole(e) => e.store,
+        Action::Advance(w) => own_advance(states, core, entry, w),
+        Action::Jump(j) => own_jump(states, core, entry, j),
+        Action::Save(s) => own_save(states, core, entry, s),
+        _ => own_other(states, core, entry, action),
     }
 }
 
@@ -141,14 +171,21 @@ fn clear_links(states: &mut [u32], w: u32)
     }
 }
 
-// Commits the action of a core that read x: its own state, memory, and every core's link to the word that is stored into.
-pub fn commit(memory: &mut [u8], states: &mut [u32], core: usize, x: Inputs, action: Action) -> Done
+// Commits the action of an entry: its core's own state, memory, and every core's link to the word that is stored into.
+pub fn commit(
+    memory: &mut [u8],
+    states: &mut [u32],
+    core: usize,
+    entry: u64,
+    action: Action,
+) -> Done
     requires { ⌜ core * 42 + 42 ≤ length (now states) ⌝ }
-    requires { ⌜ Sound (length (now memory)) (effectBy x action) ⌝ }
-    ensures { λ r. ⌜ Executed (now (memory .entry)) (now (states .entry)) core (effectBy x action) (now (memory .exit)) (now (states .exit)) r ⌝ }
+    requires { ⌜ core < 4 ⌝ }
+    requires { ⌜ Sound (length (now memory)) (actionEffect (now states) core entry action) ⌝ }
+    ensures { λ r. ⌜ Executed (now (memory .entry)) (now (states .entry)) core (actionEffect (now (states .entry)) core entry action) (now (memory .exit)) (now (states .exit)) r ⌝ }
 {
-    let raised = commit_own(states, core, x, action);
-    let store = store_of(action);
+    let raised = commit_own(states, core, entry, action);
+    let store = action::store_of(action);
     let address = store.address;
     if 0 < store.width {
         memory::store(memory, address, store.width, store.value);

@@ -2,10 +2,11 @@
 ghost use mathlib.Core.Path.{_≡_};
 ghost use Prim.Native.Nat.{_+_, _*_, _≤_, _<_};
 ghost use lib.ListN.{length};
-ghost use Rattle.isa.specs.Parts.{Registers};
+ghost use Rattle.isa.specs.Parts.{Registers, fieldsOf};
 ghost use Rattle.semantics.specs.Commit.{inputs, effectOf, fetchFault, noFields};
 ghost use Rattle.exec.specs.Report.{Executed};
 use effect::types::Board;
+use effect::types::Faulted;
 use effect::types::Flow;
 use effect::types::Inputs;
 use effect::types::Link;
@@ -55,6 +56,15 @@ pub fn inputs_of(states: &[u32], core: usize, f: Fields) -> Inputs
     }
 }
 
+// What the instruction of an entry reads of its core's state.
+pub fn inputs_at(states: &[u32], core: usize, entry: u64) -> Inputs
+    requires { ⌜ core * 42 + 42 ≤ length (now states) ⌝ }
+    requires { ⌜ core < 4 ⌝ }
+    ensures { λ r. ⌜ r ≡ inputs (now (states .entry)) core (fieldsOf entry) ⌝ }
+{
+    inputs_of(states, core, isa::entry::unpack(entry))
+}
+
 // Executes an entry as it stands, whatever word memory holds.
 pub fn execute(board: Board, memory: &mut [u8], states: &mut [u32], core: usize, entry: u64) -> Done
     requires { ⌜ core * 42 + 42 ≤ length (now states) ⌝ }
@@ -62,10 +72,8 @@ pub fn execute(board: Board, memory: &mut [u8], states: &mut [u32], core: usize,
     ensures { λ r. ⌜ Executed (now (memory .entry)) (now (states .entry)) core (effectOf board (now (memory .entry)) (now (states .entry)) core entry) (now (memory .exit)) (now (states .exit)) r ⌝ }
 {
     let kind = (entry / 0x100_0000_0000_0000) as u8;
-    let f = isa::entry::unpack(entry);
-    let action = action::action_of(board, memory, states, core, kind, f);
-    let x = inputs_of(states, core, f);
-    commit::commit(memory, states, core, x, action)
+    let action = action::action_of(board, memory, states, core, kind, entry);
+    commit::commit(memory, states, core, entry, action)
 }
 
 // A fetch outside memory raises bus error.
@@ -75,7 +83,11 @@ pub fn fetch_fault(memory: &mut [u8], states: &mut [u32], core: usize) -> Done
     ensures { λ r. ⌜ Executed (now (memory .entry)) (now (states .entry)) core (fetchFault (now (states .entry)) core) (now (memory .exit)) (now (states .exit)) r ⌝ }
 {
     let x = inputs_of(states, core, no_fields());
-    let e = effect::raised::fault(x, Cause::Bus, x.flow.pc);
+    let fault = Faulted {
+        cause: Cause::Bus,
+        eear: x.flow.pc,
+    };
+    let e = effect::raised::faulted(x, fault);
     let raised = commit::commit_state(states, core, e);
     Done {
         raised,

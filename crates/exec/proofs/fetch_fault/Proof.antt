@@ -18,12 +18,12 @@ no-fields-requires c κs = search needs
 inputs-of-requires : tie.Need-inputs-of-requires
 inputs-of-requires c κs = search needs
 
-fault-requires : tie.Need-fault-requires
-fault-requires c κs = search needs
+faulted-requires : tie.Need-faulted-requires
+faulted-requires c κs = search needs
 
 commit-state-requires : tie.Need-commit-state-requires
 unfolding raises
-commit-state-requires c κs = (c .before .before .before .before .before .before .before .pre .0, placed-as (c .before .fault .ensures) (omega arith))
+commit-state-requires c κs = (c .before .before .before .before .before .before .before .pre .0, placed-as (c .before .faulted .ensures) (omega arith))
 
 same-length : tie.Need-same-length
 same-length c = search needs
@@ -32,7 +32,7 @@ returns : tie.Need-returns
 unfolding inputs raises
 returns c =
     let a = c .before .before .before .before .before .before .before .before .before .before .args in
-    let fault = c .before .before .before .before .fault in
+    let fault = c .before .before .before .before .faulted in
     let own = c .before .before .commit-state .ensures in
     let x = c .before .before .before .before .before .inputs-of .ensures ∙ ap (inputs (now (a .states)) (a .core)) (c .before .before .before .before .before .before .no-fields .ensures .0) in
     executed-as (fault .ensures ∙ ap (λ (x : Inputs). faults x Bus (x .flow .pc)) x)
@@ -40,4 +40,4 @@ returns c =
 
 pub fetch-fault-spec : {M : Type 1} → statement M
 fetch-fault-spec =
-    tie.close (tie.spec no-fields-requires inputs-of-requires fault-requires commit-state-requires same-length returns)
+    tie.close (tie.spec no-fields-requires inputs-of-requires faulted-requires commit-state-requires same-length returns)

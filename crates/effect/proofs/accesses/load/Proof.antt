@@ -4,7 +4,6 @@ use Rattle.memory.specs.declared.Access.the-variants.{Granted}
 use Rattle.memory.proofs.Laws.{same-tag, granted-inside}
 use Rattle.effect.specs.Effect.{load}
 use Rattle.effect.proofs.Access.{answered, misaligned, off-bus}
-use Rattle.effect.specs.Action.{effectBy}
 use borrow.Author.Needs.{needs}
 use Rattle.effect.proofs.accesses.load.Statement.{statement}
 use Rattle.effect.proofs.accesses.load.Tie as tie
@@ -42,12 +41,12 @@ unfolding load
 returns c = answered (c .before .before .before .before .before .before .before .args .x) (c .before .before .before .before .before .before .before .args .width) (length (c .before .before .before .before .before .before .before .args .mem .now)) (c .before .before .before .before .before .address .result) (c .before .before .before .before .test .result) (c .before .before .before .before .before .address .ensures) (c .before .before .before .before .test .ensures) (c .before .before .before .match .keys1) _ _ (simp (c .write .ensures, c .before .load-extended .ensures, c .before .before .before .before .before .address .ensures))
 
 returns-2 : tie.Need-returns-2
-unfolding load effectBy
-returns-2 c = misaligned (c .before .before .before .before .before .before .args .x) (c .before .before .before .before .before .before .args .width) (length (c .before .before .before .before .before .before .args .mem .now)) (c .before .before .before .before .address .result) (c .before .before .before .test .result) (c .before .before .before .before .address .ensures) (c .before .before .before .test .ensures) (c .before .before .match .keys2) _ _ (c .fault .ensures)
+unfolding load
+returns-2 c = misaligned (c .before .before .before .before .before .before .args .x) (c .before .before .before .before .before .before .args .width) (length (c .before .before .before .before .before .before .args .mem .now)) (c .before .before .before .before .address .result) (c .before .before .before .test .result) (c .before .before .before .before .address .ensures) (c .before .before .before .test .ensures) (c .before .before .match .keys2) _ _ (c .fault .ensures _)
 
 returns-3 : tie.Need-returns-3
-unfolding load effectBy
-returns-3 c = off-bus (c .before .before .before .before .before .before .args .x) (c .before .before .before .before .before .before .args .width) (length (c .before .before .before .before .before .before .args .mem .now)) (c .before .before .before .before .address .result) (c .before .before .before .test .result) (c .before .before .before .before .address .ensures) (c .before .before .before .test .ensures) (c .before .before .match .keys3) _ _ (c .fault2 .ensures)
+unfolding load
+returns-3 c = off-bus (c .before .before .before .before .before .before .args .x) (c .before .before .before .before .before .before .args .width) (length (c .before .before .before .before .before .before .args .mem .now)) (c .before .before .before .before .address .result) (c .before .before .before .test .result) (c .before .before .before .before .address .ensures) (c .before .before .before .test .ensures) (c .before .before .match .keys3) _ _ (c .fault2 .ensures _)
 
 pub load-spec : {M : Type 1} → statement M
 load-spec =

@@ -23,15 +23,6 @@ load-requires : tie.Need-load-requires
 load-requires c κs = let t = c .before .before .test in
     (word-wide, granted-inside _ _ _ (sym (t .ensures) ∙ same-tag _ Granted (c .before .match .keys1)))
 
-onward-requires : tie.Need-onward-requires
-onward-requires c κs = search needs
-
-no-store-requires : tie.Need-no-store-requires
-no-store-requires c κs = search needs
-
-complete-requires : tie.Need-complete-requires
-complete-requires c κs = search needs
-
 enum-told-2 : tie.Need-enum-told-2
 enum-told-2 c = search needs
 
@@ -46,15 +37,15 @@ fault-requires-2 c κs = search needs
 
 returns : tie.Need-returns
 unfolding loadLinked effectBy
-returns c = answered (c .before .before .before .before .before .before .before .before .before .args .x) 4 (length (c .before .before .before .before .before .before .before .before .before .args .mem .now)) (c .before .before .before .before .before .before .before .address .result) (c .before .before .before .before .before .before .test .result) (c .before .before .before .before .before .before .before .address .ensures) (c .before .before .before .before .before .before .test .ensures) (c .before .before .before .before .before .match .keys1) _ _ (simp (c .complete .ensures, c .before .no-store .ensures, c .before .before .onward .ensures, c .before .before .before .load .ensures .0, c .before .before .before .before .before .before .before .address .ensures))
+returns c = answered (c .before .before .before .before .before .before .args .x) 4 (length (c .before .before .before .before .before .before .args .mem .now)) (c .before .before .before .before .address .result) (c .before .before .before .test .result) (c .before .before .before .before .address .ensures) (c .before .before .before .test .ensures) (c .before .before .match .keys1) _ _ (simp (c .load .ensures .0, c .before .before .before .before .address .ensures))
 
 returns-2 : tie.Need-returns-2
-unfolding loadLinked effectBy
-returns-2 c = misaligned (c .before .before .before .before .before .before .args .x) 4 (length (c .before .before .before .before .before .before .args .mem .now)) (c .before .before .before .before .address .result) (c .before .before .before .test .result) (c .before .before .before .before .address .ensures) (c .before .before .before .test .ensures) (c .before .before .match .keys2) _ _ (c .fault .ensures)
+unfolding loadLinked
+returns-2 c = misaligned (c .before .before .before .before .before .before .args .x) 4 (length (c .before .before .before .before .before .before .args .mem .now)) (c .before .before .before .before .address .result) (c .before .before .before .test .result) (c .before .before .before .before .address .ensures) (c .before .before .before .test .ensures) (c .before .before .match .keys2) _ _ (c .fault .ensures _)
 
 returns-3 : tie.Need-returns-3
-unfolding loadLinked effectBy
-returns-3 c = off-bus (c .before .before .before .before .before .before .args .x) 4 (length (c .before .before .before .before .before .before .args .mem .now)) (c .before .before .before .before .address .result) (c .before .before .before .test .result) (c .before .before .before .before .address .ensures) (c .before .before .before .test .ensures) (c .before .before .match .keys3) _ _ (c .fault2 .ensures)
+unfolding loadLinked
+returns-3 c = off-bus (c .before .before .before .before .before .before .args .x) 4 (length (c .before .before .before .before .before .before .args .mem .now)) (c .before .before .before .before .address .result) (c .before .before .before .test .result) (c .before .before .before .before .address .ensures) (c .before .before .before .test .ensures) (c .before .before .match .keys3) _ _ (c .fault2 .ensures _)
 
 pub load-linked-spec : {M : Type 1} → statement M
 load-linked-spec =
@@ -64,9 +55,6 @@ load-linked-spec =
     test-requires
     enum-told
     load-requires
-    onward-requires
-    no-store-requires
-    complete-requires
     enum-told-2
     fault-requires
     enum-told-3

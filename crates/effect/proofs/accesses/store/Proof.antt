@@ -34,12 +34,12 @@ unfolding store effectBy
 returns c = answered (c .before .before .before .before .before .args .x) (c .before .before .before .before .before .args .width) (c .before .before .before .before .before .args .len) (c .before .before .before .before .address .result) (c .before .before .before .test .result) (c .before .before .before .before .address .ensures) (c .before .before .before .test .ensures) (c .before .before .match .keys1) _ _ (simp (c .storing .ensures))
 
 returns-2 : tie.Need-returns-2
-unfolding store effectBy
-returns-2 c = misaligned (c .before .before .before .before .before .args .x) (c .before .before .before .before .before .args .width) (c .before .before .before .before .before .args .len) (c .before .before .before .before .address .result) (c .before .before .before .test .result) (c .before .before .before .before .address .ensures) (c .before .before .before .test .ensures) (c .before .before .match .keys2) _ _ (c .fault .ensures)
+unfolding store
+returns-2 c = misaligned (c .before .before .before .before .before .args .x) (c .before .before .before .before .before .args .width) (c .before .before .before .before .before .args .len) (c .before .before .before .before .address .result) (c .before .before .before .test .result) (c .before .before .before .before .address .ensures) (c .before .before .before .test .ensures) (c .before .before .match .keys2) _ _ (c .fault .ensures _)
 
 returns-3 : tie.Need-returns-3
-unfolding store effectBy
-returns-3 c = off-bus (c .before .before .before .before .before .args .x) (c .before .before .before .before .before .args .width) (c .before .before .before .before .before .args .len) (c .before .before .before .before .address .result) (c .before .before .before .test .result) (c .before .before .before .before .address .ensures) (c .before .before .before .test .ensures) (c .before .before .match .keys3) _ _ (c .fault2 .ensures)
+unfolding store
+returns-3 c = off-bus (c .before .before .before .before .before .args .x) (c .before .before .before .before .before .args .width) (c .before .before .before .before .before .args .len) (c .before .before .before .before .address .result) (c .before .before .before .test .result) (c .before .before .before .before .address .ensures) (c .before .before .before .test .ensures) (c .before .before .match .keys3) _ _ (c .fault2 .ensures _)
 
 pub store-spec : {M : Type 1} → statement M
 store-spec =

@@ -1,7 +1,6 @@
 use Rattle.memory.specs.Memory.{word-wide}
 use Rattle.effect.specs.Effect.{storeConditional}
 use Rattle.effect.proofs.Access.{answered, misaligned, off-bus}
-use Rattle.effect.specs.Action.{effectBy}
 use borrow.Author.Needs.{needs}
 use Rattle.effect.proofs.accesses.store_conditional.Statement.{statement}
 use Rattle.effect.proofs.accesses.store_conditional.Tie as tie
@@ -15,23 +14,8 @@ test-requires c κs = word-wide
 enum-told : tie.Need-enum-told
 enum-told c = search needs
 
-linked-requires : tie.Need-linked-requires
-linked-requires c κs = search needs
-
-set-flag-requires : tie.Need-set-flag-requires
-set-flag-requires c κs = search needs
-
-onward-requires : tie.Need-onward-requires
-onward-requires c κs = search needs
-
-no-link-requires : tie.Need-no-link-requires
-no-link-requires c κs = search needs
-
 conditional-requires : tie.Need-conditional-requires
 conditional-requires c κs = search needs
-
-complete-requires : tie.Need-complete-requires
-complete-requires c κs = search needs
 
 enum-told-2 : tie.Need-enum-told-2
 enum-told-2 c = search needs
@@ -46,16 +30,16 @@ fault-requires-2 : tie.Need-fault-requires-2
 fault-requires-2 c κs = search needs
 
 returns : tie.Need-returns
-unfolding storeConditional effectBy
-returns c = answered (c .before .before .before .before .before .before .before .before .before .before .args .x) 4 (c .before .before .before .before .before .before .before .before .before .before .args .len) (c .before .before .before .before .before .before .before .before .before .address .result) (c .before .before .before .before .before .before .before .before .test .result) (c .before .before .before .before .before .before .before .before .before .address .ensures) (c .before .before .before .before .before .before .before .before .test .ensures) (c .before .before .before .before .before .before .before .match .keys1) _ _ (simp (c .complete .ensures, c .before .conditional .ensures, c .before .before .no-link .ensures, c .before .before .before .onward .ensures, c .before .before .before .before .set-flag .ensures, c .before .before .before .before .before .linked .ensures))
+unfolding storeConditional
+returns c = answered (c .before .before .before .before .before .args .x) 4 (c .before .before .before .before .before .args .len) (c .before .before .before .before .address .result) (c .before .before .before .test .result) (c .before .before .before .before .address .ensures) (c .before .before .before .test .ensures) (c .before .before .match .keys1) _ _ (c .conditional .ensures)
 
 returns-2 : tie.Need-returns-2
-unfolding storeConditional effectBy
-returns-2 c = misaligned (c .before .before .before .before .before .args .x) 4 (c .before .before .before .before .before .args .len) (c .before .before .before .before .address .result) (c .before .before .before .test .result) (c .before .before .before .before .address .ensures) (c .before .before .before .test .ensures) (c .before .before .match .keys2) _ _ (c .fault .ensures)
+unfolding storeConditional
+returns-2 c = misaligned (c .before .before .before .before .before .args .x) 4 (c .before .before .before .before .before .args .len) (c .before .before .before .before .address .result) (c .before .before .before .test .result) (c .before .before .before .before .address .ensures) (c .before .before .before .test .ensures) (c .before .before .match .keys2) _ _ (c .fault .ensures _)
 
 returns-3 : tie.Need-returns-3
-unfolding storeConditional effectBy
-returns-3 c = off-bus (c .before .before .before .before .before .args .x) 4 (c .before .before .before .before .before .args .len) (c .before .before .before .before .address .result) (c .before .before .before .test .result) (c .before .before .before .before .address .ensures) (c .before .before .before .test .ensures) (c .before .before .match .keys3) _ _ (c .fault2 .ensures)
+unfolding storeConditional
+returns-3 c = off-bus (c .before .before .before .before .before .args .x) 4 (c .before .before .before .before .before .args .len) (c .before .before .before .before .address .result) (c .before .before .before .test .result) (c .before .before .before .before .address .ensures) (c .before .before .before .test .ensures) (c .before .before .match .keys3) _ _ (c .fault2 .ensures _)
 
 pub store-conditional-spec : {M : Type 1} → statement M
 store-conditional-spec =
@@ -64,12 +48,7 @@ store-conditional-spec =
     address-requires
     test-requires
     enum-told
-    linked-requires
-    set-flag-requires
-    onward-requires
-    no-link-requires
     conditional-requires
-    complete-requires
     enum-told-2
     fault-requires
     enum-told-3

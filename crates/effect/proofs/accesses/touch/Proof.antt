@@ -1,7 +1,6 @@
 use Rattle.memory.specs.Memory.{byte-wide}
 use Rattle.effect.proofs.Access.{answered, misaligned, off-bus}
 use Rattle.effect.specs.Effect.{touch}
-use Rattle.effect.specs.Action.{effectBy}
 use borrow.Author.Needs.{needs}
 use Rattle.effect.proofs.accesses.touch.Statement.{statement}
 use Rattle.effect.proofs.accesses.touch.Tie as tie
@@ -35,12 +34,12 @@ unfolding touch
 returns c = answered (c .before .before .before .before .before .args .x) 1 (c .before .before .before .before .before .args .len) (c .before .before .before .before .address .result) (c .before .before .before .test .result) (c .before .before .before .before .address .ensures) (c .before .before .before .test .ensures) (c .before .before .match .keys1) _ _ (simp (c .nothing .ensures))
 
 returns-2 : tie.Need-returns-2
-unfolding touch effectBy
-returns-2 c = misaligned (c .before .before .before .before .before .args .x) 1 (c .before .before .before .before .before .args .len) (c .before .before .before .before .address .result) (c .before .before .before .test .result) (c .before .before .before .before .address .ensures) (c .before .before .before .test .ensures) (c .before .before .match .keys2) _ _ (c .fault .ensures)
+unfolding touch
+returns-2 c = misaligned (c .before .before .before .before .before .args .x) 1 (c .before .before .before .before .before .args .len) (c .before .before .before .before .address .result) (c .before .before .before .test .result) (c .before .before .before .before .address .ensures) (c .before .before .before .test .ensures) (c .before .before .match .keys2) _ _ (c .fault .ensures _)
 
 returns-3 : tie.Need-returns-3
-unfolding touch effectBy
-returns-3 c = off-bus (c .before .before .before .before .before .args .x) 1 (c .before .before .before .before .before .args .len) (c .before .before .before .before .address .result) (c .before .before .before .test .result) (c .before .before .before .before .address .ensures) (c .before .before .before .test .ensures) (c .before .before .match .keys3) _ _ (c .fault2 .ensures)
+unfolding touch
+returns-3 c = off-bus (c .before .before .before .before .before .args .x) 1 (c .before .before .before .before .before .args .len) (c .before .before .before .before .address .result) (c .before .before .before .test .result) (c .before .before .before .before .address .ensures) (c .before .before .before .test .ensures) (c .before .before .match .keys3) _ _ (c .fault2 .ensures _)
 
 pub touch-spec : {M : Type 1} → statement M
 touch-spec =

@@ -1,7 +1,6 @@
 use mathlib.Core.Path.{sym, ap, _∙_}
 use borrow.Author.Tests.{lt-ltb, le-ltb}
 use Rattle.effect.specs.Effect.{registerJump}
-use Rattle.effect.specs.Action.{effectBy}
 use borrow.Author.Needs.{needs}
 use Rattle.effect.proofs.jumps.register_jump.Statement.{statement}
 use Rattle.effect.proofs.jumps.register_jump.Tie as tie
@@ -20,7 +19,7 @@ fault-requires : tie.Need-fault-requires
 fault-requires c κs = search needs
 
 returns-2 : tie.Need-returns-2
-unfolding registerJump effectBy
+unfolding registerJump
 returns-2 c = simp (c .fault .ensures, sym (c .before .before .before .before .in-slot .ensures) ∙ c .before .before .before .if1 .left, lt-ltb _ _ (c .before .if2 .taken))
 
 jumping-requires : tie.Need-jumping-requires

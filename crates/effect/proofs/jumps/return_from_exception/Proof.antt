@@ -15,15 +15,9 @@ returns : tie.Need-returns
 unfolding returnsOf
 returns c = simp (c .illegal .ensures, sym (c .before .before .in-slot .ensures) ∙ c .before .if1 .taken)
 
-no-store-requires : tie.Need-no-store-requires
-no-store-requires c κs = search needs
-
-complete-requires : tie.Need-complete-requires
-complete-requires c κs = search needs
-
 returns-2 : tie.Need-returns-2
 unfolding returnsOf effectBy
-returns-2 c = simp (c .complete .ensures, c .before .no-store .ensures, sym (c .before .before .before .before .in-slot .ensures) ∙ c .before .before .before .if1 .left)
+returns-2 c = simp (sym (c .before .in-slot .ensures) ∙ c .if1 .left)
 
 pub return-from-exception-spec : {M : Type 1} → statement M
 return-from-exception-spec =
@@ -32,6 +26,4 @@ return-from-exception-spec =
     in-slot-requires
     illegal-requires
     returns
-    no-store-requires
-    complete-requires
     returns-2)

@@ -1,15 +1,11 @@
-use borrow.Author.Needs.{needs}
+use mathlib.Core.Path.{refl}
+use Rattle.effect.specs.Action.{effectBy}
 use Rattle.effect.proofs.raised.fault.Statement.{statement}
 use Rattle.effect.proofs.raised.fault.Tie as tie
 
-restart-requires : tie.Need-restart-requires
-restart-requires c κs = search needs
-
-raise-requires : tie.Need-raise-requires
-raise-requires c κs = search needs
-
 returns : tie.Need-returns
-returns c = simp (c .raise .ensures, c .before .restart .ensures)
+unfolding effectBy
+returns c = λ x. refl
 
 pub fault-spec : {M : Type 1} → statement M
-fault-spec = tie.close (tie.spec restart-requires raise-requires returns)
+fault-spec = tie.close (tie.spec returns)

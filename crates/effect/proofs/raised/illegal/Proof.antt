@@ -1,4 +1,3 @@
-use Rattle.effect.specs.Action.{effectBy}
 use borrow.Author.Needs.{needs}
 use Rattle.effect.proofs.raised.illegal.Statement.{statement}
 use Rattle.effect.proofs.raised.illegal.Tie as tie
@@ -7,8 +6,7 @@ fault-requires : tie.Need-fault-requires
 fault-requires c κs = search needs
 
 returns : tie.Need-returns
-unfolding effectBy
-returns c = c .fault .ensures
+returns c = c .fault .ensures _
 
 pub illegal-spec : {M : Type 1} → statement M
 illegal-spec = tie.close (tie.spec fault-requires returns)

@@ -15,15 +15,9 @@ returns : tie.Need-returns
 unfolding syscall
 returns c = simp (c .illegal .ensures, sym (c .before .before .in-slot .ensures) ∙ c .before .if1 .taken)
 
-address-add-requires : tie.Need-address-add-requires
-address-add-requires c κs = search needs
-
-raise-requires : tie.Need-raise-requires
-raise-requires c κs = search needs
-
 returns-2 : tie.Need-returns-2
 unfolding syscall effectBy
-returns-2 c = simp (c .raise .ensures, c .before .address-add .ensures, sym (c .before .before .before .in-slot .ensures) ∙ c .before .before .if1 .left)
+returns-2 c = simp (sym (c .before .in-slot .ensures) ∙ c .if1 .left)
 
 pub syscall-spec : {M : Type 1} → statement M
 syscall-spec =
@@ -32,6 +26,4 @@ syscall-spec =
     in-slot-requires
     illegal-requires
     returns
-    address-add-requires
-    raise-requires
     returns-2)

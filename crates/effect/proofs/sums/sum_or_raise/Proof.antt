@@ -11,21 +11,9 @@ out-of-range-requires c κs = search needs
 flags-requires : tie.Need-flags-requires
 flags-requires c κs = search needs
 
-restart-requires : tie.Need-restart-requires
-restart-requires c κs = search needs
-
-raise-requires : tie.Need-raise-requires
-raise-requires c κs = search needs
-
 returns : tie.Need-returns
 unfolding sumsOrRaises effectBy
-returns c =
-    simp (
-      c .raise .ensures,
-      c .before .restart .ensures,
-      c .before .before .flags .ensures,
-      sym (c .before .before .before .before .out-of-range .ensures) ∙ c .before .before .before .if1 .taken,
-    )
+returns c = simp (c .flags .ensures, sym (c .before .before .out-of-range .ensures) ∙ c .before .if1 .taken)
 
 sum-requires : tie.Need-sum-requires
 sum-requires c κs = search needs
@@ -36,4 +24,4 @@ returns-2 c = simp (c .sum .ensures, sym (c .before .before .out-of-range .ensur
 
 pub sum-or-raise-spec : {M : Type 1} → statement M
 sum-or-raise-spec =
-    tie.close (tie.spec out-of-range-requires flags-requires restart-requires raise-requires returns sum-requires returns-2)
+    tie.close (tie.spec out-of-range-requires flags-requires returns sum-requires returns-2)

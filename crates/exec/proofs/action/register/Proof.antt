@@ -4,8 +4,8 @@ use borrow.Author.Needs.{needs}
 use Rattle.exec.proofs.action.register.Statement.{statement}
 use Rattle.exec.proofs.action.register.Tie as tie
 
-inputs-of-requires : tie.Need-inputs-of-requires
-inputs-of-requires c κs = search needs
+inputs-at-requires : tie.Need-inputs-at-requires
+inputs-at-requires c κs = search needs
 
 register-requires : tie.Need-register-requires
 register-requires c κs = search needs
@@ -13,7 +13,7 @@ register-requires c κs = search needs
 returns : tie.Need-returns
 returns c =
     let a = c .before .before .before .args in
-    read-as (c .register .result) (registers (a .kind)) (c .before .inputs-of .ensures) (c .register .ensures)
+    read-as (c .register .result) (registers (a .kind)) (c .before .inputs-at .ensures) (c .register .ensures)
 
 pub register-spec : {M : Type 1} → statement M
-register-spec = tie.close (tie.spec inputs-of-requires register-requires returns)
+register-spec = tie.close (tie.spec inputs-at-requires register-requires returns)

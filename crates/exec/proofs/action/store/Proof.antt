@@ -4,8 +4,8 @@ use borrow.Author.Needs.{needs}
 use Rattle.exec.proofs.action.store.Statement.{statement}
 use Rattle.exec.proofs.action.store.Tie as tie
 
-inputs-of-requires : tie.Need-inputs-of-requires
-inputs-of-requires c κs = search needs
+inputs-at-requires : tie.Need-inputs-at-requires
+inputs-at-requires c κs = search needs
 
 store-requires : tie.Need-store-requires
 store-requires c κs = search needs
@@ -13,7 +13,7 @@ store-requires c κs = search needs
 returns : tie.Need-returns
 returns c =
     let a = c .before .before .before .args in
-    read-as (c .store .result) (stores (a .len) (a .kind)) (c .before .inputs-of .ensures) (c .store .ensures)
+    read-as (c .store .result) (stores (a .len) (a .kind)) (c .before .inputs-at .ensures) (c .store .ensures)
 
 pub store-spec : {M : Type 1} → statement M
-store-spec = tie.close (tie.spec inputs-of-requires store-requires returns)
+store-spec = tie.close (tie.spec inputs-at-requires store-requires returns)
