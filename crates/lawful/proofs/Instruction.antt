@@ -1,27 +1,26 @@
--- One instruction of a core whose state is accepted: its effect is sound and lawful, and its states are accepted again. Assumes nothing.
-use mathlib.Core.Bool.{true, false}
+-- One instruction of a core whose state is accepted: its effect is sound and lawful. Assumes nothing.
+use mathlib.Core.Bool.{false}
 use mathlib.Core.List.{List}
 use mathlib.Core.Path.{_≡_, ap}
 use Prim.Native.Nat.{ℕ, _+_, _/_, _%_, _<_, _≤_}
 use native.Mathlib.Omega.{arith}
 use lib.ListN.{length}
-use borrow.Author.Tests.{ltb-true, ltb-false}
+use borrow.Author.Tests.{ltb-false}
 use Rattle.bits.specs.Word.{field}
 use Rattle.isa.specs.InstructionSet.{decode}
 use Rattle.isa.specs.Parts.{Registers, fieldsOf}
 use Rattle.isa.specs.declared.entry.Fields.{Fields}
 use Rattle.memory.specs.Memory.{stored, memoryWord}
-use Rattle.memory.proofs.Laws.{bounds, length-stored, other-word-kept}
+use Rattle.memory.proofs.Laws.{length-stored, other-word-kept}
 use Rattle.effect.specs.declared.types.Board.{Board}
 use Rattle.effect.specs.declared.types.Effect.{Effect}
-use Rattle.semantics.specs.Commit.{coreCount, inputs, stores, touched, statesAfter, memoryAfter, effectOf}
-use Rattle.lawful.specs.Sound.{Sound, SoundStore, InWord, none, some}
+use Rattle.semantics.specs.Commit.{inputs, stores, touched, memoryAfter, effectOf}
+use Rattle.lawful.specs.Sound.{Sound, SoundStore, none, some}
 use Rattle.lawful.specs.Rules.{LawfulInputs, Lawful}
-use Rattle.lawful.specs.Accepted.{Accepted, AllAccepted}
+use Rattle.lawful.specs.Accepted.{Accepted}
 use Rattle.lawful.proofs.Sound.{meaning-sound}
 use Rattle.lawful.proofs.Lawful.{meaning-lawful}
 use Rattle.lawful.proofs.Jumps.{decoded-jump}
-use Rattle.lawful.proofs.States.{states-accepted}
 
 -- ---- what it reads
 
@@ -56,9 +55,6 @@ module _ (board : Board) (mem s : List ℕ) (core : ℕ) where
         let f = fieldsOf (decode w) in
         meaning-lawful (inputs s core f) (inputs-lawful s core f (fields-registers (decode w) .d) a) board mem (field (decode w) 56 8) (decoded-jump w)
 
-    pub decoded-accepted : core < coreCount s → AllAccepted s → AllAccepted (statesAfter s core (effectOf board mem s core (decode w)))
-    decoded-accepted h a = states-accepted s core (effectOf board mem s core (decode w)) (decoded-lawful (a core h)) h a
-
 -- ---- what it leaves in memory
 
 pub length-memory : (mem : List ℕ) (e : Effect) → length (memoryAfter mem e) ≡ length mem
@@ -72,22 +68,7 @@ no-store-kept mem e h =
     let z : e .store .width ≡ 0 = omega arith in
     ap (λ n. stored n mem (e .store .address) (e .store .value)) z
 
-module _ (len : ℕ) (e : Effect) (sound : Sound len e) where
-  pub stores-in-word : stores e ≡ true → InWord len (e .store)
-  stores-in-word h = go (sound .sound-store)
-    where
-      go : SoundStore len (e .store) → InWord len (e .store)
-      go (none z) = let n : 0 < e .store .width = ltb-true 0 (e .store .width) h in absurd (omega arith)
-      go (some i) = i
-
-  -- the word that it touches is a word of memory
-  pub touched-inside : stores e ≡ true → len % 4 ≡ 0 → touched e < len / 4
-  touched-inside h m =
-      let i : InWord len (e .store) = stores-in-word h in
-      let b = bounds (i .wide) in
-      omega arith
-
--- and every other word stays
+-- every word that it does not touch stays
 pub other-words-kept : (mem : List ℕ) (e : Effect) → Sound (length mem) e → (k : ℕ) → (k ≡ touched e → ⊥)
     → memoryWord (memoryAfter mem e) k ≡ memoryWord mem k
 unfolding memoryAfter
