@@ -1,5 +1,6 @@
 // What each kind does, a line a kind, in the order of document 01.
 ghost use mathlib.Core.Path.{_≡_};
+ghost use Prim.Native.Nat.{_<_, _≤_};
 ghost use lib.ListN.{length};
 ghost use Rattle.semantics.specs.Meaning.{control as controlOf, loads, immediates, compareImmediates, stores, registers, compares, caches};
 ghost use Rattle.effect.specs.Action.{effectBy};
@@ -13,8 +14,9 @@ use effect::types::Action;
 use effect::types::Board;
 use effect::types::Inputs;
 
-// Jumps, branches, exceptions, and what only goes on.
-pub fn control(kind: u8, x: Inputs) -> Action
+// Jumps and branches by an immediate; below them, no kind.
+pub fn branch(kind: u8, x: Inputs) -> Action
+    requires { ⌜ kind < 6 ⌝ }
     ensures { λ r. ⌜ effectBy x r ≡ controlOf kind x ⌝ }
 {
     match kind {
@@ -22,8 +24,27 @@ pub fn control(kind: u8, x: Inputs) -> Action
         3 => jumps::jump(x, 9, jumps::after_slot(x), jumps::relative(x)),
         4 => jumps::branch(x, !arith::flag(x.sr)),
         5 => jumps::branch(x, arith::flag(x.sr)),
-        6 => completed::nop(x),
-        7 => completed::write(x, arith::movhi(x.immediate)),
+        _ => raised::illegal(x),
+    }
+}
+
+// L.nop, the most frequent of all, and l.movhi.
+pub fn onward(kind: u8, x: Inputs) -> Action
+    requires { ⌜ (6 ≤ kind) × (kind < 8) ⌝ }
+    ensures { λ r. ⌜ effectBy x r ≡ controlOf kind x ⌝ }
+{
+    if kind == 6 {
+        return completed::nop(x);
+    }
+    completed::write(x, arith::movhi(x.immediate))
+}
+
+// Exceptions, syncs, the return from an exception, and jumps to a register.
+pub fn control(kind: u8, x: Inputs) -> Action
+    requires { ⌜ 8 ≤ kind ⌝ }
+    ensures { λ r. ⌜ effectBy x r ≡ controlOf kind x ⌝ }
+{
+    match kind {
         8 => raised::syscall(x),
         9 => raised::trap(x),
         10 => completed::nothing(x),

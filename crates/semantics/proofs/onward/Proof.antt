@@ -1,0 +1,38 @@
+use mathlib.Core.Path.{_≡_}
+use native.Mathlib.Omega.{arith}
+use borrow.Author.Needs.{needs}
+use borrow.Author.Tests.{eq-eqb, ne-eqb}
+use Rattle.semantics.specs.Meaning.{control}
+use Rattle.semantics.proofs.onward.Statement.{statement}
+use Rattle.semantics.proofs.onward.Tie as tie
+
+nop-requires : tie.Need-nop-requires
+nop-requires c κs = search needs
+
+movhi-requires : tie.Need-movhi-requires
+movhi-requires c κs = search needs
+
+write-requires : tie.Need-write-requires
+write-requires c κs = search needs
+
+returns : tie.Need-returns
+unfolding control
+returns c = simp (c .nop .ensures, c .before .if1 .taken)
+
+returns-2 : tie.Need-returns-2
+unfolding control
+returns-2 c =
+    let k = c .before .before .before .args .kind in
+    let p = c .before .before .before .pre in
+    let seven : k ≡ 7 = omega (arith, p .0, p .1, c .before .before .if1 .left) in
+    simp (c .write .ensures, c .before .movhi .ensures, seven)
+
+pub onward-spec : {M : Type 1} → statement M
+onward-spec =
+    tie.close
+    (tie.spec
+    nop-requires
+    returns
+    movhi-requires
+    write-requires
+    returns-2)
