@@ -6,11 +6,11 @@ use native.Mathlib.Nat.{mod-lt, pow-suc, mul-comm, mul-assoc, add-mul}
 use native.Mathlib.Numerals.{add-one}
 use native.Mathlib.Omega.{arith}
 use lib.Arith.{digits-lt}
-use lib.Dec.{eqb, ltb}
+use lib.Dec.{ltb}
 use lib.Pow.{pow-pos, pow-add, split, high, low, field, mod-mod-pow, mod-pow-add, shl-exact, shr-lt, shr-shr}
 use borrow.Author.Tests.{ltb-true, ltb-false}
-use Rattle.bits.specs.Word.{bit, bitAt}
-use Rattle.arith.specs.Bit.{isSet, setBit}
+use Rattle.bits.specs.Word.{bitAt}
+use Rattle.arith.specs.Bit.{setBit}
 
 pub bit-at-lt : (i x : ℕ) → bitAt i x < 2
 bit-at-lt i x = omega arith
@@ -75,10 +75,6 @@ module _ (i v x : ℕ) (h : v < 2) where
       let w : 2 ^ (32 - suc i + 1) * 2 ^ i ≡ 2 ^ 32 = sym (pow-add 2 (32 - suc i + 1) i) ∙ ap (λ n. 2 ^ n) f in
       rw (set-split, ← w)
       (digits-lt {q = x / 2 ^ suc i * 2 + v} {m = 2 ^ (32 - suc i + 1)} {r = x % 2 ^ i} {c = 2 ^ i} (omega arith) (mod-lt x (pow-pos i)))
-
-pub is-set-set : (i x : ℕ) (t : Bool) → isSet i (setBit i (bit t) x) ≡ t
-is-set-set i x true = ap (λ b. eqb b 1) (get-set i 1 x (omega arith))
-is-set-set i x false = ap (λ b. eqb b 1) (get-set i 0 x (omega arith))
 
 bit-split : (i x : ℕ) → x / 2 ^ suc i * 2 ^ suc i + bitAt i x * 2 ^ i + x % 2 ^ i ≡ x
 bit-split i x =

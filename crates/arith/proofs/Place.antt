@@ -70,15 +70,6 @@ module _ (x : ℕ) where
       go ih false true = omega arith
       go ih false false = omega arith
 
-  pub greatest-le : (n : ℕ) → greatest n x ≤ n
-  unfolding greatest
-  greatest-le zero = omega arith
-  greatest-le (suc n) = go (greatest-le n) (isSet n x)
-    where
-      go : greatest n x ≤ n → (u : Bool) → (if u then suc n else greatest n x) ≤ suc n
-      go ih true = omega arith
-      go ih false = omega arith
-
 none-of-zero : (i : ℕ) → isSet i 0 ≡ false
 none-of-zero i = clear 0 i (ap (λ n. n % 2) (div-eq-of-lt (pow-pos i)))
 

@@ -3,15 +3,14 @@ use mathlib.Core.Path.{_≡_, sym, ap, ap₂, _∙_}
 use Prim.Native.Nat.{ℕ, zero, suc, _+_, _*_, _/_, _%_, _^_, _-_, _<_, _≤_}
 use native.Mathlib.Nat.{mod-lt, mod-eq-of-lt, mul-mod-left, add-comm, add-zero, add-mul, one-mul, div-one, div-add-mod', mul-comm, le-trans, le-of-eq, le-mul-of-pos-right}
 use native.Mathlib.Omega.{arith}
-use lib.Arith.{mod-mul, digits-lt, digits-div}
+use lib.Arith.{mod-mul, digits-div}
 use lib.Bits.{bitAnd, bitOr, bitXor, and-mask, or-self, or-shifted, xor-add-and, xor-zero-r}
 use lib.IntN.{pos, negsuc}
 use lib.Pow.{pow-pos, pow-add, shl-shr, shr-le, shr-lt}
 use lib.Signed.{shrZ}
-use Rattle.bits.specs.Word.{signed, word}
+use Rattle.bits.specs.Word.{word}
 use Rattle.bits.proofs.Extend.{signed-low, signed-high, by-half}
-use Rattle.arith.specs.Shift.{shiftLeft, shiftRight, shiftRightSigned, rotateRight, highHalf}
-use Rattle.arith.proofs.Sums.{word-lt}
+use Rattle.arith.specs.Shift.{shiftLeft, shiftRight, shiftRightSigned, rotateRight}
 
 -- the powers of k and of what is left of 32 make 2 ^ 32
 pow-both : (k : ℕ) → k < 32 → 2 ^ 32 ≡ 2 ^ k * 2 ^ (32 - k)
@@ -139,20 +138,6 @@ module _ (x n : ℕ) where
   pub shift-left-lt : shiftLeft x n < 2 ^ 32
   shift-left-lt = mod-lt (x * 2 ^ (n % 32)) (omega arith)
 
-  pub shift-right-signed-lt : shiftRightSigned x n < 2 ^ 32
-  unfolding shiftRightSigned
-  shift-right-signed-lt = word-lt (shrZ (signed 32 x) (2 ^ (n % 32)))
-
   module _ (g : x < 2 ^ 32) where
     pub shift-right-lt : shiftRight x n < 2 ^ 32
     shift-right-lt = let l : x / 2 ^ (n % 32) ≤ x = shr-le x (n % 32) in omega arith
-
-    pub rotate-right-lt : rotateRight x n < 2 ^ 32
-    unfolding rotateRight
-    rotate-right-lt =
-        let h : n % 32 < 32 = omega arith in
-        rw (pow-both (n % 32) h)
-        (digits-lt {q = x % 2 ^ (n % 32)} {m = 2 ^ (n % 32)} {r = x / 2 ^ (n % 32)} {c = 2 ^ (32 - n % 32)} (mod-lt x (pow-pos (n % 32))) (shifted-lt x (n % 32) g h))
-
-pub high-half-lt : (k : ℕ) → highHalf k < 2 ^ 32
-high-half-lt k = omega arith

@@ -2,7 +2,7 @@
 use mathlib.Core.Bool.{Bool, true, false}
 use mathlib.Core.List.{List, [], _∷_, _++_}
 use mathlib.Core.Path.{_≡_, refl, sym, ap, ap₂, _∙_}
-use Prim.Native.Nat.{ℕ, zero, suc, _+_, _*_, _/_, _%_, _^_, _<_, _≤_}
+use Prim.Native.Nat.{ℕ, zero, suc, _+_, _*_, _/_, _%_, _^_, _<_}
 use native.Mathlib.Nat.{add-mul, mod-one, one-mul, pow-suc}
 use native.Mathlib.Numerals.{add-one}
 use native.Mathlib.Omega.{arith}
@@ -107,9 +107,6 @@ allowed-fields x =
     let c : only (run 9 5) x ≡ x / 2 ^ 9 % 2 ^ 5 * 2 ^ 9 = only-run x 9 5 in
     omega arith
 
-pub allowed-lt : (x : ℕ) → allowed x < 2 ^ 16
-allowed-lt x = let e = allowed-fields x in omega arith
-
 pub allowed-again : (x : ℕ) → allowed (allowed x) ≡ allowed x
 allowed-again x =
     let u = x / 2 ^ 9 % 2 ^ 5 in
@@ -130,9 +127,3 @@ allowed-again x =
 
 pub aligned-multiple : (x : ℕ) → aligned x % 4 ≡ 0
 aligned-multiple x = omega arith
-
-pub aligned-le : (x : ℕ) → aligned x ≤ x
-aligned-le x = omega arith
-
-pub aligned-same : (x : ℕ) → x % 4 ≡ 0 → aligned x ≡ x
-aligned-same x h = omega arith

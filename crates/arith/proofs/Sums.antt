@@ -10,7 +10,7 @@ use lib.Signed.{ltZ}
 use borrow.Author.Tests.{ltb-true, ltb-false, le-leb, lt-leb, lt-ltb, le-ltb}
 use Rattle.bits.specs.Word.{bit, signed, word}
 use Rattle.bits.proofs.Extend.{signed-word}
-use Rattle.arith.specs.Sums.{fits, sum, difference, addressSum, addressDifference}
+use Rattle.arith.specs.Sums.{fits, sum, difference, addressSum}
 use Rattle.arith.specs.declared.Flagged.{Flagged}
 use Rattle.arith.proofs.Integer.{by-sign, sub-add, sub-sub, sub-le, sub-lt, sub-zero}
 
@@ -39,10 +39,6 @@ pub difference-ranged : (a b : ℕ) → Ranged (difference a b)
 unfolding difference
 difference-ranged a b = record { value-lt = word-lt (pos a -ℤ pos b); carry-lt = bit-lt (ltb a b); overflow-lt = bit-lt (not (fits (signed 32 a -ℤ signed 32 b))) }
 
-pub address-difference-lt : (a b : ℕ) → addressDifference a b < 2 ^ 32
-unfolding addressDifference
-address-difference-lt a b = word-lt (pos a -ℤ pos b)
-
 -- the low 32 bits of a difference, in natural numbers
 pub word-sub : (a b : ℕ) → a < 2 ^ 32 → b < 2 ^ 32 → word (pos a -ℤ pos b) ≡ (a + 2 ^ 32 - b) % 2 ^ 32
 unfolding word
@@ -52,16 +48,9 @@ word-sub a b ha hb =
     ap word (ap₂ _-ℤ_ (sub-zero a) (sub-zero b) ∙ sub-sub a 0 b 0 ∙ ap₂ subℕ e f)
     ∙ by-sign a b (λ z. word z ≡ (a + 2 ^ 32 - b) % 2 ^ 32) (λ h. omega arith) (λ h. omega arith)
 
-pub address-difference-value : (a b : ℕ) → a < 2 ^ 32 → b < 2 ^ 32 → addressDifference a b ≡ (a + 2 ^ 32 - b) % 2 ^ 32
-unfolding addressDifference
-address-difference-value a b ha hb = word-sub a b ha hb
-
 -- sums and differences of multiples of 4 are multiples of 4
 pub address-sum-multiple : (a b : ℕ) → a % 4 ≡ 0 → b % 4 ≡ 0 → addressSum a b % 4 ≡ 0
 address-sum-multiple a b ma mb = omega arith
-
-pub address-difference-multiple : (a b : ℕ) → a < 2 ^ 32 → b < 2 ^ 32 → a % 4 ≡ 0 → b % 4 ≡ 0 → addressDifference a b % 4 ≡ 0
-address-difference-multiple a b ha hb ma mb = rw (address-difference-value a b ha hb) (omega arith)
 
 -- ---- what the code works out
 

@@ -10,14 +10,14 @@ shiftLeft x n = x * 2 ^ (n % 32) % 2 ^ 32
 abbrev pub shiftRight : ℕ → ℕ → ℕ
 shiftRight x n = x / 2 ^ (n % 32)
 
--- l.sra: the signed number over a power of 2, rounded down
+-- l.sra (document 000): the signed number over a power of 2, rounded down
 unfoldable pub shiftRightSigned : ℕ → ℕ → ℕ
 shiftRightSigned x n = word (shrZ (signed 32 x) (2 ^ (n % 32)))
 
--- l.ror: the bits that go out at the low end come in at the top
+-- l.ror (document 000): the bits that go out at the low end come in at the top
 unfoldable pub rotateRight : ℕ → ℕ → ℕ
 rotateRight x n = x % 2 ^ (n % 32) * 2 ^ (32 - n % 32) + x / 2 ^ (n % 32)
 
--- l.movhi: k in the upper half
+-- l.movhi (document 000): k in the upper half
 abbrev pub highHalf : ℕ → ℕ
 highHalf k = k * 2 ^ 16 % 2 ^ 32

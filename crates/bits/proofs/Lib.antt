@@ -1,3 +1,4 @@
 -- Laws that every other crate's proofs may cite.
 pub mod Extend
+pub mod Lists
 pub mod Tests

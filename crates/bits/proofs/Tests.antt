@@ -21,6 +21,15 @@ pub and-both : (a b : Bool) → T a → T b → T (a && b)
 and-both true b t u = u
 and-both false b t u = t
 
+pub T-of : (b : Bool) → b ≡ true → T b
+T-of true e = tt
+T-of false e = absurd (let z : _≡_ {A = ℕ} 0 1 = cc in omega arith)
+
+-- the tests of a list, one by one
+abbrev pub Each : List Bool → Type 0
+Each [] = Unit
+Each (b ∷ l) = T b × Each l
+
 -- f passes at n numbers from low on
 abbrev pub everywhere : (ℕ → Bool) → ℕ → ℕ → Bool
 everywhere f low zero = true

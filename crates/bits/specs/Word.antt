@@ -1,8 +1,7 @@
 -- A word's bits, and the signed numbers that they stand for. Bit 0 is the lowest.
 use mathlib.Core.Bool.{Bool, true, false}
-use Prim.Native.Nat.{ℕ, _+_, _-_, _*_, _/_, _%_, _^_}
+use Prim.Native.Nat.{ℕ, _-_, _*_, _/_, _%_, _^_}
 use lib.IntN.{ℤ, pos, negsuc, subℕ}
-use Rattle.bits.specs.Choice.{if_then_else_}
 
 -- the k bits of x from bit low up, as a number
 abbrev pub field : ℕ → ℕ → ℕ → ℕ

@@ -5,10 +5,11 @@ use mathlib.Core.Bool.{Bool, true, false, _&&_}
 use mathlib.Core.List.{List, [], _∷_, _++_, append-assoc, map}
 use native.Mathlib.Numerals.{add-one}
 use native.Mathlib.Omega.{arith}
-use native.Mathlib.Nat.{not-suc-le-zero, zero-add, suc-add, mod-lt}
+use native.Mathlib.Nat.{not-suc-le-zero, zero-add, mod-lt}
 use borrow.Author.Tests.{eq-eqb, ne-eqb}
 use lib.Dec.{T, lit<}
 use lib.ListN.{length, take, drop, getD, set, replicate, length-append, length-drop, length-set, length-replicate, replicate-append-replicate, take-append-drop, length-map}
+use Rattle.bits.proofs.Lists.{set-append-add}
 use lib.Seq.{length-take-le, take-at, drop-append-add, drop-drop, drop-cons, sets-eq, set-at, set-append-left, getD-take, getD-drop}
 use Rattle.bits.proofs.Tests.{and-left, and-right}
 use Rattle.text.specs.Ascii.{ascii}
@@ -66,10 +67,6 @@ module _ (l : List ℕ) (at : ℕ) where
         ∙ ap (λ k. set (ahead ++ k) (at + length s) v) (drop-cons l (at + length s) 0 g)
         ∙ set-at ahead (getD l (at + length s) 0) (drop (suc (at + length s)) l) v (at + length s) length-ahead
         ∙ simp (m, append-assoc)
-
-set-append-add : (xs ys : List ℕ) (i v : ℕ) → set (xs ++ ys) (length xs + i) v ≡ xs ++ set ys i v
-set-append-add [] ys i v = rw zero-add
-set-append-add (x ∷ xs) ys i v = rw suc-add (ap (λ l. x ∷ l) (set-append-add xs ys i v))
 
 pub laid-set : (l : List ℕ) (at : ℕ) (s : List ℕ) (k v : ℕ) → at + length s ≤ length l → k < length s → set (laid l at s) (at + k) v ≡ laid l at (set s k v)
 unfolding laid

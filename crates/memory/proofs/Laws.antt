@@ -93,10 +93,6 @@ loaded-stored (suc n) m at v h =
 pub other-word-kept : (n : ℕ) (m : List ℕ) (at v k : ℕ) → at % 4 + n ≤ 4 → (k ≡ at / 4 → ⊥) → memoryWord (stored n m at v) k ≡ memoryWord m k
 other-word-kept n m at v k h g = loaded-elsewhere 4 n m at v (4 * k) (λ p q. g (omega arith))
 
--- the word at an aligned address is the memory word of that number
-pub aligned-word : (m : List ℕ) (at : ℕ) → at % 4 ≡ 0 → loaded 4 m at ≡ memoryWord m (at / 4)
-aligned-word m at h = let e : at ≡ 4 * (at / 4) = omega arith in ap (λ k. loaded 4 m k) e
-
 -- ---- widths
 
 -- a width in a form that `omega` reads
@@ -116,22 +112,11 @@ bytes-bits byte-wide = refl
 bytes-bits half-wide = refl
 bytes-bits word-wide = refl
 
-pub width-fits : {n : ℕ} → Width n → 256 ^ n ≤ 2 ^ 32
-width-fits byte-wide = omega arith
-width-fits half-wide = omega arith
-width-fits word-wide = omega arith
-
 -- an aligned access lies in one word
 pub aligned-in-word : {n : ℕ} → Width n → (at : ℕ) → at % n ≡ 0 → at % 4 + n ≤ 4
 aligned-in-word byte-wide at h = omega arith
 aligned-in-word half-wide at h = omega arith
 aligned-in-word word-wide at h = omega arith
-
--- memory ends with a whole word: an aligned access that starts inside lies inside
-pub aligned-inside : {n : ℕ} → Width n → (len at : ℕ) → len % 4 ≡ 0 → at % n ≡ 0 → at < len → at + n ≤ len
-aligned-inside byte-wide len at w h i = omega arith
-aligned-inside half-wide len at w h i = omega arith
-aligned-inside word-wide len at w h i = omega arith
 
 -- ---- the test, case by case
 

@@ -12,7 +12,7 @@ use lib.ListN.{length, take, drop, getD, drop-of-length-le, length-drop}
 use lib.Seq.{drop-cons, drop-drop, take-add, drop-at, length-take-le}
 use lib.Arith.{digits-lt}
 use Rattle.bits.proofs.Tests.{everywhere, within as at-each}
-use Rattle.text.specs.Digits.{glyph, digit}
+use Rattle.text.specs.Digits.{digit}
 use Rattle.text.specs.Numbers.{number, decimal}
 use Rattle.text.specs.Lines.{Line, ended, cut, onto, lines, begins, entry, missing, entryOf}
 use Rattle.text.specs.Places.{lineLength}
@@ -41,11 +41,6 @@ digit-letter b h k = digits-are (λ b. b - 87) 97 6 tt b h (omega arith)
 pub digit-high : (b : ℕ) → 102 < b → b < 256 → 16 ≡ digit b
 unfolding digit
 digit-high b h k = digits-are (λ _. 16) 103 153 tt b (omega arith) (omega arith)
-
--- a character is read back as its digit
-pub digit-glyph : (d : ℕ) → d < 16 → digit (glyph d) ≡ d
-unfolding digit
-digit-glyph d h = eqb→eq (digit (glyph d)) d (at-each (λ d. eqb (digit (glyph d)) d) 0 16 tt d (omega arith) (omega arith))
 
 module _ (base v i : ℕ) (t : List ℕ) where
   pub number-step : (d : ℕ) → i < length t → d ≡ digit (getD t i 0) → d < base → number base v (drop i t) ≡ number base (v * base + d) (drop (i + 1) t)
