@@ -9,11 +9,11 @@ use Rattle.host.specs.Interface.{Answers}
 
 pub answers : (e : ℕ) (a : Encoded) → Encodes e a → Answers e (number a)
 answers e (Word w) h =
-    let l : w < 2 ^ 32 = h .sound w refl .0 in
+    let l : w < 2 ^ 32 = h .sound refl .0 in
     record {
       exact = ap number (h .exact);
       range = omega arith;
-      sound = λ _. h .sound w refl .1;
+      sound = λ _. h .sound refl .1;
       complete = λ q. absurd (omega arith);
     }
 answers e Refused h =

@@ -3,25 +3,24 @@ use mathlib.Core.Path.{_≡_, refl, _∙_, subst, sym, ap, ap₂}
 use mathlib.Core.Bool.{Bool, true, false, _&&_}
 use mathlib.Core.Logic.{⊎-elim}
 use Prim.Native.Nat.{ℕ, _+_, _*_, _/_, _%_, _^_, _≤_, _<_}
-use native.Mathlib.Nat.{mod-eq-of-lt, div-one}
+use native.Mathlib.Nat.{mod-eq-of-lt}
 use native.Mathlib.Omega.{arith}
 use lib.Pow.{pow-mono, high}
 use lib.Dec.{T, eqb, leb, ltb, eqb→eq, leb→le, ltb→lt}
 use lib.ListN.{length}
 use borrow.Author.Tests.{eq-eqb, ne-eqb, eqb-true, eqb-false}
-use Rattle.bits.specs.Choice.{if_then_else_}
 use Rattle.bits.specs.Word.{field}
 use Rattle.bits.proofs.Tests.{and-left, and-right}
 use Rattle.isa.specs.InstructionSet.{Field, D, A, B, I, Row, rows, illegal, fits, firstFit, rowOf, kindRow, width, read, immediate, immediateBits, pack, entry, decode, value, fill, wordFor, candidate}
 use Rattle.isa.specs.Encoding.{encode, Encodes}
-use Rattle.isa.specs.Parts.{kindOf, Describes, packed, fieldsIn, fieldsOf, bitsOf}
-use Rattle.isa.specs.declared.encoder.Encoded.{Encoded}
+use Rattle.isa.specs.Entry.{fieldsOf}
+use Rattle.isa.specs.Parts.{kindOf, Describes, packed, fieldsIn, bitsOf}
 use Rattle.isa.specs.declared.encoder.Encoded.the-variants.{Word, Refused}
 use Rattle.isa.specs.declared.entry.Fields.{Fields}
 use Rattle.isa.specs.declared.kinds.Shape.{Shape}
 use Rattle.isa.proofs.Immediates.{form-width, immediate-lt, immediate-back}
 use Rattle.isa.proofs.Pictures.{Agree, Holds, read-lt, entry-same, fill-fits-lt, filled-agrees}
-use Rattle.isa.proofs.Rows.{hit, Found, found-row, every-row, first-has, kind-range, illegal-entry, own-row}
+use Rattle.isa.proofs.Rows.{hit, found-row, every-row, first-has, kind-range, illegal-entry, own-row}
 
 by-equality : (a b : ℕ) (P : Type 0) → (a ≡ b → P) → ((a ≡ b → ⊥) → P) → P
 by-equality a b P f g = go (eqb a b) refl
@@ -253,15 +252,15 @@ pub encodes-word : (e c : ℕ) → c ≡ candidate e → c < 2 ^ 32 → decode c
 encodes-word e c h l d =
     record {
       exact = ap Word h ∙ sym (taken e (rw h at d));
-      sound = λ w q. let g : c ≡ w = cc in (rw g at l, rw g at d);
-      complete = λ q. absurd (let z : _≡_ {A = ℕ} 0 1 = cc in omega arith);
+      sound = λ q. (l, d);
+      complete = λ q. absurd (omega (arith, q));
     }
 
 pub encodes-none : (e : ℕ) → (decode (candidate e) ≡ e → ⊥) → Encodes e Refused
 encodes-none e n =
     record {
       exact = sym (refused e n);
-      sound = λ w q. absurd (let z : _≡_ {A = ℕ} 0 1 = cc in omega arith);
+      sound = λ q. absurd (omega (arith, q));
       complete = λ q w l d. n (ap (λ x. decode (candidate x)) (sym d) ∙ recoded w .again ∙ d);
     }
 

@@ -6,8 +6,8 @@ use native.Mathlib.Omega.{arith}
 use native.Mathlib.Nat.{mod-eq-of-lt}
 use lib.Dec.{T, eqb, leb, eqb→eq, leb→le}
 use lib.Pow.{pow-mono}
-use lib.IntN.{ℤ, pos, negℤ, _*ℤ_}
-use Rattle.bits.specs.Word.{word, signed, extend}
+use lib.IntN.{pos, negℤ, _*ℤ_}
+use Rattle.bits.specs.Word.{word, extend}
 use Rattle.bits.proofs.Extend.{signed-low, signed-high, by-half, extend-low, extend-high, extend-lt, extend-back}
 use Rattle.isa.specs.InstructionSet.{Form, zext, sext, jump, immediate, immediateBits}
 

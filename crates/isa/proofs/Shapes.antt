@@ -12,8 +12,9 @@ use Rattle.bits.specs.Choice.{if_then_else_}
 use Rattle.bits.specs.Word.{field, bitAt}
 use Rattle.bits.proofs.Tests.{and-left, and-right, all-entries, at-entry}
 use Rattle.isa.specs.InstructionSet as set
-use Rattle.isa.specs.InstructionSet.{Field, D, A, B, I, Mark, must, of, reserved, Row, rows, rowOf, kindRow, sameField, width, read, entry, fill, value, immediate, immediateBits, wordFor}
-use Rattle.isa.specs.Parts.{Describes, layouts, shapeOf, packed, fieldsIn, fieldsOf, bitsOf, gathered, scattered, formOf}
+use Rattle.isa.specs.InstructionSet.{Field, D, A, B, I, Mark, must, of, reserved, Row, kindRow, sameField, width, read, entry, fill, value, immediateBits, wordFor}
+use Rattle.isa.specs.Entry.{fieldsOf}
+use Rattle.isa.specs.Parts.{Describes, shapeOf, packed, fieldsIn, bitsOf, gathered, scattered, formOf}
 use Rattle.isa.specs.declared.kinds.Place.{Place}
 use Rattle.isa.specs.declared.kinds.Place.the-variants.{None, Low5, Low16, Low26, Split}
 use Rattle.isa.specs.declared.kinds.Shape.{Shape}

@@ -20,8 +20,9 @@ number Refused = 2 ^ 32
 unfoldable pub encode : ℕ → Encoded
 encode e = if eqb (decode (candidate e)) e then Word (candidate e) else Refused
 
--- what the encoder promises of its answer to e: it is the definition's; a word is one that decodes to e; e is refused only where no word does
+-- what the encoder promises of its answer to e: it is the definition's; an answer that is no refusal is a word that decodes to e; refusal 8 comes
+-- only where no word does
 pub record Encodes (e : ℕ) (r : Encoded) : Type 0 where
   pub exact : r ≡ encode e
-  pub sound : (w : ℕ) → r ≡ Word w → (w < 2 ^ 32) × (decode w ≡ e)
-  pub complete : r ≡ Refused → (w : ℕ) → w < 2 ^ 32 → decode w ≡ e → ⊥
+  pub sound : refusal r ≡ 0 → (number r < 2 ^ 32) × (decode (number r) ≡ e)
+  pub complete : refusal r ≡ 8 → (w : ℕ) → w < 2 ^ 32 → decode w ≡ e → ⊥

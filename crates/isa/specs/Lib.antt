@@ -1,4 +1,5 @@
 pub mod InstructionSet
+pub mod Entry
 pub mod Encoding
 pub mod Vectors
 pub mod Parts

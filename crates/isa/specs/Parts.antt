@@ -2,12 +2,13 @@
 use mathlib.Core.Bool.{Bool, true, false, _&&_}
 use mathlib.Core.Path.{_≡_}
 use mathlib.Core.List.{List, [], _∷_}
-use Prim.Native.Nat.{ℕ, _+_, _-_, _*_, _/_, _%_, _^_, _<_}
+use Prim.Native.Nat.{ℕ, _+_, _-_, _*_, _%_, _^_, _<_}
 use lib.Dec.{leb}
 use lib.ListN.{getD}
 use Rattle.bits.specs.Choice.{if_then_else_}
 use Rattle.bits.specs.Word.{field}
 use Rattle.isa.specs.InstructionSet as set
+use Rattle.isa.specs.Entry.{fieldsOf}
 use Rattle.isa.specs.InstructionSet.{rows, firstFit, kindRow, immediate, entry, pack, immediateBits, wordFor}
 use Rattle.isa.specs.declared.kinds.Place.{Place}
 use Rattle.isa.specs.declared.kinds.Place.the-variants.{None, Low5, Low16, Low26, Split}
@@ -15,6 +16,8 @@ use Rattle.isa.specs.declared.kinds.Form.{Form}
 use Rattle.isa.specs.declared.kinds.Form.the-variants.{Zext, Sext, Jump}
 use Rattle.isa.specs.declared.kinds.Shape.{Shape}
 use Rattle.isa.specs.declared.entry.Fields.{Fields}
+use Rattle.isa.specs.declared.vectors.Cause.{Cause}
+use Rattle.isa.specs.declared.vectors.Cause.the-variants.{Bus, Alignment, Illegal, Range, Syscall, Trap}
 
 -- the kind of a word
 unfoldable pub kindOf : ℕ → ℕ
@@ -38,9 +41,6 @@ pub record Registers (f : Fields) : Type 0 where
 
 abbrev pub packed : ℕ → Fields → ℕ
 packed k f = pack k (f .d) (f .a) (f .b) (f .immediate)
-
-abbrev pub fieldsOf : ℕ → Fields
-fieldsOf e = record { d = field e 42 5; a = field e 37 5; b = field e 32 5; immediate = e % 2 ^ 32 }
 
 abbrev pub formOf : Form → set.Form
 formOf Zext = set.zext
@@ -107,3 +107,12 @@ pub record Describes (k : ℕ) (t : Shape) : Type 0 where
   pub fields : (w : ℕ) → entry (kindRow k) w ≡ packed (kindRow k .kind) (fieldsIn t w)
   pub word : (e : ℕ) → wordFor (kindRow k) e ≡ wordFor (kindRow k) 0 + bitsOf t (fieldsOf e)
   pub small : (e : ℕ) → wordFor (kindRow k) e < 2 ^ 32
+
+-- the place of a cause in the table of vectors
+abbrev pub causeNumber : Cause → ℕ
+causeNumber Bus = 0
+causeNumber Alignment = 1
+causeNumber Illegal = 2
+causeNumber Range = 3
+causeNumber Syscall = 4
+causeNumber Trap = 5

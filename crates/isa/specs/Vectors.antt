@@ -11,12 +11,3 @@ vector Illegal = 0x700
 vector Range = 0xb00
 vector Syscall = 0xc00
 vector Trap = 0xe00
-
--- the place of a cause in that order
-abbrev pub number : Cause → ℕ
-number Bus = 0
-number Alignment = 1
-number Illegal = 2
-number Range = 3
-number Syscall = 4
-number Trap = 5

@@ -104,7 +104,7 @@ fn cache_kind(x: u32) -> u8
 }
 
 // The kind of a word: its top six bits choose the row.
-pub fn kind_of(w: u32) -> u8
+fn kind_of(w: u32) -> u8
     ensures { λ r. ⌜ (r ≡ kindOf w) × (r < 80) ⌝ }
 {
     let opcode = w / 0x400_0000;
@@ -160,7 +160,7 @@ fn extended(form: Form, n: u32) -> u32
     }
 }
 
-// The five bits of w from its bit `low` on, if the kind has that register, else 0.
+// The low five bits of x, if the kind has that register, else 0.
 fn register(has: bool, x: u32) -> u8
     ensures { λ r. ⌜ (r ≡ (if has then x % 32 else 0)) × (r < 32) ⌝ }
 {

@@ -1,6 +1,7 @@
 // Where execution goes on after an exception: the constant table of vectors, by cause.
 ghost use mathlib.Core.Path.{_≡_};
-ghost use Rattle.isa.specs.Vectors.{number as numberOf, vector as vectorOf};
+ghost use Rattle.isa.specs.Parts.{causeNumber};
+ghost use Rattle.isa.specs.Vectors.{vector as vectorOf};
 
 pub enum Cause {
     Bus,
@@ -15,7 +16,7 @@ const VECTORS: [u32; 6] = [0x200, 0x600, 0x700, 0xb00, 0xc00, 0xe00];
 
 // The place of a cause in the table.
 fn number(cause: Cause) -> usize
-    ensures { λ r. ⌜ r ≡ numberOf cause ⌝ }
+    ensures { λ r. ⌜ r ≡ causeNumber cause ⌝ }
 {
     match cause {
         Cause::Bus => 0,

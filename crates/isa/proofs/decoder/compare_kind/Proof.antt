@@ -1,4 +1,3 @@
-use mathlib.Core.Bool.{Bool}
 use native.Mathlib.Omega.{arith}
 use borrow.Author.Tests.{le-leb, lt-leb}
 use Rattle.isa.specs.Parts.{compareKind}

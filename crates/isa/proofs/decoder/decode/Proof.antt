@@ -1,7 +1,6 @@
-use mathlib.Core.Path.{sym, ap, subst, _∙_}
+use mathlib.Core.Path.{ap, subst, _∙_}
 use Prim.Native.Nat.{ℕ}
 use Rattle.isa.specs.Parts.{Describes, packed, fieldsIn}
-use Rattle.isa.specs.declared.entry.Fields.{Fields}
 use Rattle.isa.proofs.Complete.{own-entry}
 use borrow.Author.Needs.{needs}
 use Rattle.isa.proofs.decoder.decode.Statement.{statement}

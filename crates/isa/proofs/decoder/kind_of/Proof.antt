@@ -1,6 +1,6 @@
 use mathlib.Core.List.{List, [], _∷_}
 use mathlib.Core.Path.{refl, sym, ap, _∙_}
-use Prim.Native.Nat.{ℕ, _+_, _-_, _/_, _%_, _^_}
+use Prim.Native.Nat.{ℕ, _-_, _/_, _%_, _^_}
 use native.Mathlib.Omega.{arith}
 use native.Mathlib.Nat.{div-one}
 use Rattle.bits.proofs.Tests.{equal-but, within-but}

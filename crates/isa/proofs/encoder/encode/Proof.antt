@@ -1,7 +1,7 @@
-use mathlib.Core.Path.{_≡_, sym, ap, _∙_}
-use Prim.Native.Nat.{ℕ, _+_, _/_, _^_}
+use mathlib.Core.Path.{sym, ap, _∙_}
+use Prim.Native.Nat.{_/_, _^_}
 use native.Mathlib.Omega.{arith}
-use Rattle.isa.specs.InstructionSet.{decode, candidate}
+use Rattle.isa.specs.InstructionSet.{decode}
 use Rattle.isa.proofs.Complete.{encodes-word, encodes-none, encodes-high, made, made-lt}
 use borrow.Author.Needs.{needs}
 use Rattle.isa.proofs.encoder.encode.Statement.{statement}

@@ -1,4 +1,3 @@
-use mathlib.Core.Path.{_∙_}
 use Rattle.isa.proofs.Shapes.{present-at}
 use borrow.Author.Needs.{needs}
 use Rattle.isa.proofs.encoder.field_word.Statement.{statement}

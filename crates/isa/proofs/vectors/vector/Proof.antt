@@ -3,7 +3,8 @@ use mathlib.Core.Path.{_≡_, refl, ap, _∙_}
 use Prim.Native.Nat.{ℕ, _<_}
 use native.Mathlib.Omega.{arith}
 use lib.ListN.{getD}
-use Rattle.isa.specs.Vectors.{number, vector}
+use Rattle.isa.specs.Parts.{causeNumber}
+use Rattle.isa.specs.Vectors.{vector}
 use Rattle.isa.specs.declared.vectors.Cause.{Cause}
 use Rattle.isa.specs.declared.vectors.Cause.the-variants.{Bus, Alignment, Illegal, Range, Syscall, Trap}
 use Rattle.isa.proofs.vectors.vector.Statement.{statement}
@@ -13,7 +14,7 @@ use Rattle.isa.proofs.vectors.vector.Tie as tie
 abbrev vectors : List ℕ
 vectors = 0x200 ∷ 0x600 ∷ 0x700 ∷ 0xb00 ∷ 0xc00 ∷ 0xe00 ∷ []
 
-number-lt : (c : Cause) → number c < 6
+number-lt : (c : Cause) → causeNumber c < 6
 number-lt Bus = omega arith
 number-lt Alignment = omega arith
 number-lt Illegal = omega arith
@@ -21,7 +22,7 @@ number-lt Range = omega arith
 number-lt Syscall = omega arith
 number-lt Trap = omega arith
 
-in-table : (c : Cause) → getD vectors (number c) 0 ≡ vector c
+in-table : (c : Cause) → getD vectors (causeNumber c) 0 ≡ vector c
 in-table Bus = refl
 in-table Alignment = refl
 in-table Illegal = refl
@@ -33,10 +34,10 @@ number-requires : tie.Need-number-requires
 number-requires c κs = tt
 
 mul-result : tie.Need-mul-result
-mul-result c = let h : number (c .before .args .cause) < 6 = number-lt (c .before .args .cause) in omega (arith, c .number .ensures)
+mul-result c = let h : causeNumber (c .before .args .cause) < 6 = number-lt (c .before .args .cause) in omega (arith, c .number .ensures)
 
 array-read-result : tie.Need-array-read-result
-array-read-result c = let h : number (c .before .args .cause) < 6 = number-lt (c .before .args .cause) in omega (arith, c .number .ensures)
+array-read-result c = let h : causeNumber (c .before .args .cause) < 6 = number-lt (c .before .args .cause) in omega (arith, c .number .ensures)
 
 returns : tie.Need-returns
 returns c = ap (λ n. getD vectors n 0) (c .number .ensures) ∙ in-table (c .before .args .cause)
