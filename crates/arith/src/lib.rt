@@ -43,7 +43,7 @@ fn one_if(t: bool) -> u32
 }
 
 // Bit i of x.
-pub fn bit_at(x: u32, i: u32) -> u32
+fn bit_at(x: u32, i: u32) -> u32
     requires { ⌜ i < 32 ⌝ }
     ensures { λ r. ⌜ (r ≡ bitAt i x) × (r < 2) ⌝ }
 {
@@ -51,7 +51,7 @@ pub fn bit_at(x: u32, i: u32) -> u32
 }
 
 // x with bit i made v.
-pub fn set_bit(x: u32, i: u32, v: u32) -> u32
+fn set_bit(x: u32, i: u32, v: u32) -> u32
     requires { ⌜ (i < 32) × (v < 2) ⌝ }
     ensures { λ r. ⌜ r ≡ setBit i v x ⌝ }
 {

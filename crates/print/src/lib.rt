@@ -21,7 +21,7 @@ pub fn put_bytes(out: &mut [u8], at: usize, text: &[u8]) -> usize
 }
 
 // The k lowest digits of n in a base.
-pub fn put_digits(out: &mut [u8], at: usize, n: u64, base: u64, k: usize) -> usize
+fn put_digits(out: &mut [u8], at: usize, n: u64, base: u64, k: usize) -> usize
     requires { ⌜ (at + k ≤ length (now out)) × (1 < base) × (base ≤ 16) ⌝ }
     ensures { λ r. ⌜ Put (now (out .entry)) at (digits base k n) (now (out .exit)) r ⌝ }
 {
@@ -36,7 +36,7 @@ pub fn put_digits(out: &mut [u8], at: usize, n: u64, base: u64, k: usize) -> usi
 }
 
 // How many decimal digits n has.
-pub fn decimal_places(n: u64) -> usize
+fn decimal_places(n: u64) -> usize
     ensures { λ r. ⌜ r ≡ decimalPlaces n ⌝ }
 {
     let mut k: usize = 1;
@@ -48,7 +48,7 @@ pub fn decimal_places(n: u64) -> usize
     k
 }
 
-pub fn put_decimal(out: &mut [u8], at: usize, n: u64) -> usize
+fn put_decimal(out: &mut [u8], at: usize, n: u64) -> usize
     requires { ⌜ at + length (decimal n) ≤ length (now out) ⌝ }
     ensures { λ r. ⌜ Put (now (out .entry)) at (decimal n) (now (out .exit)) r ⌝ }
 {
