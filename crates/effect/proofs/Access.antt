@@ -1,5 +1,5 @@
 -- The test of an access, at the instruction's own address. Assumes nothing.
-use mathlib.Core.Path.{_≡_, refl, sym, ap, _∙_}
+use mathlib.Core.Path.{_≡_, sym, ap, _∙_}
 use Prim.Native.Nat.{ℕ}
 use denote.Enum.Declared.{tagOf}
 use Rattle.memory.specs.Memory.{access}

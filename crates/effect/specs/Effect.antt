@@ -1,8 +1,8 @@
 -- What an instruction may do: document 01, "One instruction" and its vectors.
 -- An instruction reads x : Inputs (its fields, its registers' values and its core's state before it) and has an Effect.
-use mathlib.Core.Bool.{Bool, true, false, _&&_}
+use mathlib.Core.Bool.{Bool, _&&_}
 use mathlib.Core.List.{List}
-use Prim.Native.Nat.{ℕ, _+_, _*_, _%_}
+use Prim.Native.Nat.{ℕ, _*_, _%_}
 use lib.Dec.{eqb, ltb}
 use lib.ListN.{length}
 use Rattle.bits.specs.Choice.{if_then_else_}
@@ -32,6 +32,8 @@ noLink = record { held = 0; address = 0 }
 
 abbrev pub noStore : Store
 noStore = record { width = 0; address = 0; value = 0 }
+
+-- "A step ends in a completed instruction or in one exception, which carries its vector and address."
 
 -- A completed instruction: v goes to the word of its state at place ("Writes to r0 are dropped": place 0 is none), and SR, the flow, the
 -- link, the mode and a store are as given.
@@ -73,8 +75,11 @@ unfoldable pub setsFlag : Inputs → Bool → Effect
 setsFlag x t = advances x 0 0 (setBit F (bit t) (x .sr))
 
 -- "l.nop with immediate 1 advances, then halts its core; other nops and the syncs only advance."
+abbrev pub halting : Inputs → Effect
+halting x = completed 0 0 (x .sr) (onward x) (x .link) halted noStore
+
 unfoldable pub nop : Inputs → Effect
-nop x = if eqb (x .immediate) 1 then completed 0 0 (x .sr) (onward x) (x .link) halted noStore else nothing x
+nop x = if eqb (x .immediate) 1 then halting x else nothing x
 
 -- ---- exceptions
 
@@ -112,8 +117,11 @@ abbrev pub outsideSlot : Inputs → Effect → Effect
 outsideSlot x e = if inSlot x then illegal x else e
 
 -- "syscall gives PC + 4"
+abbrev pub calling : Inputs → Effect
+calling x = raises x 0 0 (x .sr) Syscall (addressSum (x .flow .pc) 4) (x .eear)
+
 unfoldable pub syscall : Inputs → Effect
-syscall x = outsideSlot x (raises x 0 0 (x .sr) Syscall (addressSum (x .flow .pc) 4) (x .eear))
+syscall x = outsideSlot x (calling x)
 
 -- ---- sums
 
@@ -125,9 +133,12 @@ unfoldable pub sums : Inputs → Flagged → Effect
 sums x f = advances x (x .d) (f .value) (flags x f)
 
 -- "add, addc and sub with OV and SR[OVE] both 1 raise range after rD and flags are written."
+abbrev pub overflowing : Inputs → ℕ → ℕ → ℕ → Effect
+overflowing x place v sr = raises x place v sr Range (restart x) (x .eear)
+
 unfoldable pub sumsOrRaises : Inputs → Flagged → Effect
 sumsOrRaises x f =
-    if isSet OVE (x .sr) && eqb (f .overflow) 1 then raises x (x .d) (f .value) (flags x f) Range (restart x) (x .eear) else
+    if isSet OVE (x .sr) && eqb (f .overflow) 1 then overflowing x (x .d) (f .value) (flags x f) else
     sums x f
 
 -- ---- jumps
@@ -143,7 +154,7 @@ jump x place v to = outsideSlot x (jumping x place v to)
 abbrev pub relative : Inputs → ℕ
 relative x = addressSum (x .flow .pc) (x .immediate)
 
--- the slot + 4
+-- the slot + 4: "jal and jalr put slot + 4 in r9."
 abbrev pub afterSlot : Inputs → ℕ
 afterSlot x = addressSum (x .flow .pc) 8
 
@@ -156,9 +167,11 @@ unfoldable pub registerJump : Inputs → ℕ → ℕ → Effect
 registerJump x place v = outsideSlot x (if ltb 0 (x .b % 4) then faults x Alignment (x .b) else jumping x place v (x .b))
 
 -- "l.rfe sets PC to EPCR and SR to ESR, has no slot and keeps the link."
+abbrev pub returning : Inputs → Effect
+returning x = completed 0 0 (x .esr) (record { pc = x .epcr; delay = 0; target = 0 }) (x .link) running noStore
+
 unfoldable pub returns : Inputs → Effect
-returns x =
-    outsideSlot x (completed 0 0 (x .esr) (record { pc = x .epcr; delay = 0; target = 0 }) (x .link) running noStore)
+returns x = outsideSlot x (returning x)
 
 -- ---- memory
 
@@ -179,25 +192,30 @@ unfoldable pub load : Inputs → List ℕ → ℕ → Bool → Effect
 load x mem n sign = reaches x n (length mem) (writes x (extend sign (8 * n) (loaded n mem (effectiveAddress x))))
 
 -- "l.lwa sets the link."
+abbrev pub linking : Inputs → ℕ → ℕ → ℕ → Effect
+linking x place v at = completed place v (x .sr) (onward x) (record { held = 1; address = at }) running noStore
+
 unfoldable pub loadLinked : Inputs → List ℕ → Effect
-loadLinked x mem =
-    reaches x 4 (length mem)
-    (completed (x .d) (loaded 4 mem (effectiveAddress x)) (x .sr) (onward x) (record { held = 1; address = effectiveAddress x }) running noStore)
+loadLinked x mem = reaches x 4 (length mem) (linking x (x .d) (loaded 4 mem (effectiveAddress x)) (effectiveAddress x))
 
 abbrev pub storing : Inputs → ℕ → Store
 storing x n = record { width = n; address = effectiveAddress x; value = x .b }
 
+abbrev pub saving : Inputs → Store → Effect
+saving x s = completed 0 0 (x .sr) (onward x) (x .link) running s
+
 unfoldable pub store : Inputs → ℕ → ℕ → Effect
-store x len n = reaches x n len (completed 0 0 (x .sr) (onward x) (x .link) running (storing x n))
+store x len n = reaches x n len (saving x (storing x n))
 
 -- "l.swa, after both checks, stores and sets F if the link is to that word, else clears F; it clears its own link either way."
 abbrev pub linked : Inputs → Bool
 linked x = eqb (x .link .held) 1 && eqb (x .link .address) (effectiveAddress x)
 
+abbrev pub unlinking : Inputs → ℕ → Store → Effect
+unlinking x flag s = completed 0 0 (setBit F flag (x .sr)) (onward x) noLink running s
+
 unfoldable pub storeConditional : Inputs → ℕ → Effect
-storeConditional x len =
-    reaches x 4 len
-    (completed 0 0 (setBit F (bit (linked x)) (x .sr)) (onward x) noLink running (if linked x then storing x 4 else noStore))
+storeConditional x len = reaches x 4 len (unlinking x (bit (linked x)) (if linked x then storing x 4 else noStore))
 
 -- "p.* tests its one byte and does no more."
 unfoldable pub touch : Inputs → ℕ → Effect

@@ -1,10 +1,9 @@
 // Loads, stores and the cache instructions: each tests its access first.
 ghost use mathlib.Core.Path.{_≡_};
-ghost use lib.ListN.{length};
 ghost use Rattle.memory.specs.Memory.{Width};
-ghost use Rattle.effect.specs.Effect.{effectiveAddress, load as loadOf, loadLinked, storing as storingOf, store as storeOf, linked as linkedOf, storeConditional, touch as touchOf, noLink, noStore};
+ghost use Rattle.effect.specs.Effect.{effectiveAddress, load as loadOf, loadLinked, storing as storingOf, store as storeOf, linked as linkedOf, storeConditional, touch as touchOf, linking, saving, unlinking, noLink, noStore};
 ghost use Rattle.bits.specs.Word.{bit};
-ghost use Rattle.effect.specs.Action.{effectBy, saves, links, unlinks};
+ghost use Rattle.effect.specs.Action.{effectBy};
 ghost use Rattle.bits.specs.Choice.{if_then_else_};
 use crate::completed;
 use crate::raised;
@@ -29,7 +28,10 @@ pub fn load(x: Inputs, mem: &[u8], width: u32, signed: bool) -> Action
 {
     let at = address(x);
     match memory::test(mem.len(), at, width) {
-        Access::Granted => completed::write(x, memory::load_extended(mem, at, width, signed)),
+        Access::Granted => Action::Advance(completed::write(
+            x,
+            memory::load_extended(mem, at, width, signed),
+        )),
         Access::Misaligned => raised::fault(Cause::Alignment, at),
         Access::BusError => raised::fault(Cause::Bus, at),
     }
@@ -37,7 +39,7 @@ pub fn load(x: Inputs, mem: &[u8], width: u32, signed: bool) -> Action
 
 // The effect of l.lwa once its access is granted.
 pub fn load_linked_effect(x: Inputs, l: Linked) -> Effect
-    ensures { λ r. ⌜ r ≡ links x l ⌝ }
+    ensures { λ r. ⌜ r ≡ linking x (l .place) (l .value) (l .address) ⌝ }
 {
     let link = Link {
         held: 1,
@@ -82,7 +84,7 @@ fn storing(x: Inputs, width: u32) -> Store
 
 // The effect of a store.
 pub fn saved(x: Inputs, store: Store) -> Effect
-    ensures { λ r. ⌜ r ≡ saves x store ⌝ }
+    ensures { λ r. ⌜ r ≡ saving x store ⌝ }
 {
     let link = x.link;
     completed::complete(0, 0, x.sr, completed::onward(x), link, 3, store)
@@ -122,14 +124,14 @@ fn no_link() -> Link
 
 // The effect of l.swa once its access is granted: `t` if its link was to that word.
 pub fn store_conditional_effect(x: Inputs, t: bool, store: Store) -> Effect
-    ensures { λ r. ⌜ r ≡ unlinks x (bit t) store ⌝ }
+    ensures { λ r. ⌜ r ≡ unlinking x (bit t) store ⌝ }
 {
     let sr = arith::set_flag(x.sr, t);
     completed::complete(0, 0, sr, completed::onward(x), no_link(), 3, store)
 }
 
 fn conditional(x: Inputs) -> Action
-    ensures { λ r. ⌜ effectBy x r ≡ unlinks x (bit (linkedOf x)) (if linkedOf x then storingOf x 4 else noStore) ⌝ }
+    ensures { λ r. ⌜ effectBy x r ≡ unlinking x (bit (linkedOf x)) (if linkedOf x then storingOf x 4 else noStore) ⌝ }
 {
     if linked(x) {
         return Action::SaveLinked(storing(x, 4));
@@ -155,7 +157,7 @@ pub fn touch(x: Inputs, len: usize) -> Action
 {
     let at = address(x);
     match memory::test(len, at, 1) {
-        Access::Granted => completed::nothing(x),
+        Access::Granted => Action::Advance(completed::nothing(x)),
         Access::Misaligned => raised::fault(Cause::Alignment, at),
         Access::BusError => raised::fault(Cause::Bus, at),
     }

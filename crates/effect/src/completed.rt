@@ -1,9 +1,8 @@
 // Instructions that complete and go on to the next one.
 ghost use mathlib.Core.Path.{_≡_};
-ghost use Rattle.effect.specs.Effect.{onward as onwardOf, advances as advancesOf, writes as writesOf, nothing as nothingOf, setsFlag, nop as nopOf, inSlot, noStore};
+ghost use Rattle.effect.specs.Effect.{onward as onwardOf, writes as writesOf, nothing as nothingOf, setsFlag, nop as nopOf, halting, inSlot, noStore};
 ghost use Rattle.effect.specs.Effect.{completed as completedOf};
-ghost use Rattle.effect.specs.Action.{effectBy, halts};
-ghost use Rattle.effect.specs.declared.types.Inputs.{Inputs};
+ghost use Rattle.effect.specs.Action.{effectBy, goesOn};
 use crate::types::Action;
 use crate::types::Effect;
 use crate::types::Flow;
@@ -74,39 +73,40 @@ pub fn onward(x: Inputs) -> Flow
 
 // The effect of an instruction that goes on.
 pub fn advanced(x: Inputs, w: Written) -> Effect
-    ensures { λ r. ⌜ r ≡ advancesOf x (w .place) (w .value) (w .sr) ⌝ }
+    ensures { λ r. ⌜ r ≡ goesOn x w ⌝ }
 {
     let link = x.link;
     complete(w.place, w.value, w.sr, onward(x), link, 3, no_store())
 }
 
-pub fn advance(place: u32, value: u32, sr: u32) -> Action
-    ensures { λ r. ⌜ ((x : Inputs) → effectBy x r ≡ advancesOf x place value sr) ⌝ }
+// What such an instruction writes.
+pub fn written(place: u32, value: u32, sr: u32) -> Written
+    ensures { λ r. ⌜ r ≡ record { place = place; value = value; sr = sr } ⌝ }
 {
-    Action::Advance(Written { place, value, sr })
+    Written { place, value, sr }
 }
 
-pub fn write(x: Inputs, value: u32) -> Action
-    ensures { λ r. ⌜ effectBy x r ≡ writesOf x value ⌝ }
+pub fn write(x: Inputs, value: u32) -> Written
+    ensures { λ r. ⌜ goesOn x r ≡ writesOf x value ⌝ }
 {
-    advance(x.d, value, x.sr)
+    written(x.d, value, x.sr)
 }
 
-pub fn nothing(x: Inputs) -> Action
-    ensures { λ r. ⌜ effectBy x r ≡ nothingOf x ⌝ }
+pub fn nothing(x: Inputs) -> Written
+    ensures { λ r. ⌜ goesOn x r ≡ nothingOf x ⌝ }
 {
-    advance(0, 0, x.sr)
+    written(0, 0, x.sr)
 }
 
-pub fn set_flag(x: Inputs, t: bool) -> Action
-    ensures { λ r. ⌜ effectBy x r ≡ setsFlag x t ⌝ }
+pub fn set_flag(x: Inputs, t: bool) -> Written
+    ensures { λ r. ⌜ goesOn x r ≡ setsFlag x t ⌝ }
 {
-    advance(0, 0, arith::set_flag(x.sr, t))
+    written(0, 0, arith::set_flag(x.sr, t))
 }
 
 // The effect of a halt.
 pub fn halted(x: Inputs) -> Effect
-    ensures { λ r. ⌜ r ≡ halts x ⌝ }
+    ensures { λ r. ⌜ r ≡ halting x ⌝ }
 {
     let link = x.link;
     complete(0, 0, x.sr, onward(x), link, 0, no_store())
@@ -119,5 +119,5 @@ pub fn nop(x: Inputs) -> Action
     if x.immediate == 1 {
         return Action::Halt;
     }
-    nothing(x)
+    Action::Advance(nothing(x))
 }

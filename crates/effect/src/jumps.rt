@@ -1,7 +1,7 @@
 // Jumps, branches and the return from an exception: illegal in a delay slot.
 ghost use mathlib.Core.Path.{_≡_};
-ghost use Rattle.effect.specs.Effect.{jumping as jumpingOf, jump as jumpOf, relative as relativeOf, afterSlot, branch as branchOf, registerJump, returns};
-ghost use Rattle.effect.specs.Action.{effectBy, goesBack};
+ghost use Rattle.effect.specs.Effect.{jumping as jumpingOf, jump as jumpOf, relative as relativeOf, afterSlot, branch as branchOf, registerJump, returning, returns};
+ghost use Rattle.effect.specs.Action.{effectBy};
 ghost use Rattle.effect.specs.declared.types.Inputs.{Inputs};
 use crate::completed;
 use crate::raised;
@@ -82,7 +82,7 @@ pub fn register_jump(x: Inputs, place: u32, value: u32) -> Action
 
 // The effect of l.rfe outside a slot.
 pub fn returned(x: Inputs) -> Effect
-    ensures { λ r. ⌜ r ≡ goesBack x ⌝ }
+    ensures { λ r. ⌜ r ≡ returning x ⌝ }
 {
     let flow = Flow {
         pc: x.epcr,

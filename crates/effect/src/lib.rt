@@ -1,9 +1,10 @@
-// One instruction, as an effect by value.
+// One instruction: its action by value, and the effect that the action has.
 pub mod accesses;
 pub mod action;
 pub mod completed;
 pub mod jumps;
 pub mod raised;
 pub mod special;
+pub mod state;
 pub mod sums;
 pub mod types;

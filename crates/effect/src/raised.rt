@@ -1,7 +1,7 @@
 // Instructions that raise an exception.
 ghost use mathlib.Core.Path.{_≡_};
-ghost use Rattle.effect.specs.Effect.{restart as restartOf, raises, faults, illegal as illegalOf, trap as trapOf, syscall as syscallOf, inSlot};
-ghost use Rattle.effect.specs.Action.{effectBy, overflows, calls};
+ghost use Rattle.effect.specs.Effect.{restart as restartOf, raises, faults, illegal as illegalOf, trap as trapOf, syscall as syscallOf, calling, overflowing, inSlot};
+ghost use Rattle.effect.specs.Action.{effectBy};
 ghost use Rattle.effect.specs.declared.types.Inputs.{Inputs};
 ghost use Prim.Native.Nat.{_<_};
 ghost use Rattle.bits.specs.Word.{bit};
@@ -82,14 +82,14 @@ pub fn faulted(x: Inputs, f: Faulted) -> Effect
 
 // The effect of an overflow, once rD and SR are written.
 pub fn overflowed(x: Inputs, w: Written) -> Effect
-    ensures { λ r. ⌜ r ≡ overflows x w ⌝ }
+    ensures { λ r. ⌜ r ≡ overflowing x (w .place) (w .value) (w .sr) ⌝ }
 {
     raise(x, w.place, w.value, w.sr, Cause::Range, restart(x), x.eear)
 }
 
 // The effect of l.sys outside a slot.
 pub fn called(x: Inputs) -> Effect
-    ensures { λ r. ⌜ r ≡ calls x ⌝ }
+    ensures { λ r. ⌜ r ≡ calling x ⌝ }
 {
     let next = arith::address_add(x.flow.pc, 4);
     raise(x, 0, 0, x.sr, Cause::Syscall, next, x.eear)

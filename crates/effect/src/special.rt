@@ -1,11 +1,11 @@
 // The special-purpose registers.
 ghost use mathlib.Core.Path.{_≡_};
 ghost use Rattle.effect.specs.Effect.{specialRegister, setsSpecialRegister};
-ghost use Rattle.effect.specs.Action.{effectBy};
+ghost use Rattle.effect.specs.Action.{goesOn};
 use crate::completed;
-use crate::types::Action;
 use crate::types::Board;
 use crate::types::Inputs;
+use crate::types::Written;
 
 pub fn read(board: Board, x: Inputs, n: u32) -> u32
     ensures { λ r. ⌜ r ≡ specialRegister board x n ⌝ }
@@ -21,14 +21,14 @@ pub fn read(board: Board, x: Inputs, n: u32) -> u32
     }
 }
 
-pub fn write(x: Inputs, n: u32, v: u32) -> Action
-    ensures { λ r. ⌜ effectBy x r ≡ setsSpecialRegister x n v ⌝ }
+pub fn write(x: Inputs, n: u32, v: u32) -> Written
+    ensures { λ r. ⌜ goesOn x r ≡ setsSpecialRegister x n v ⌝ }
 {
     match n {
-        17 => completed::advance(0, 0, arith::keep_allowed(v)),
-        32 => completed::advance(36, arith::align(v), x.sr),
-        48 => completed::advance(37, v, x.sr),
-        64 => completed::advance(38, arith::keep_allowed(v), x.sr),
+        17 => completed::written(0, 0, arith::keep_allowed(v)),
+        32 => completed::written(36, arith::align(v), x.sr),
+        48 => completed::written(37, v, x.sr),
+        64 => completed::written(38, arith::keep_allowed(v), x.sr),
         _ => completed::nothing(x),
     }
 }

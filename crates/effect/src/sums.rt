@@ -5,8 +5,8 @@ ghost use Prim.Native.Nat.{_<_};
 ghost use lib.Dec.{eqb};
 ghost use Rattle.arith.specs.Bit.{isSet};
 ghost use Rattle.arith.specs.Status.{OVE};
-ghost use Rattle.effect.specs.Effect.{flags as flagsOf, sums, sumsOrRaises};
-ghost use Rattle.effect.specs.Action.{effectBy};
+ghost use Rattle.effect.specs.Effect.{flags as flagsOf, sumsOrRaises};
+ghost use Rattle.effect.specs.Action.{effectBy, summed};
 use crate::completed;
 use crate::types::Action;
 use crate::types::Inputs;
@@ -21,11 +21,11 @@ fn flags(x: Inputs, f: Flagged) -> u32
     arith::set_carry_overflow(x.sr, f.carry, f.overflow)
 }
 
-pub fn sum(x: Inputs, f: Flagged) -> Action
+pub fn sum(x: Inputs, f: Flagged) -> Written
     requires { ⌜ (f .carry < 2) × (f .overflow < 2) ⌝ }
-    ensures { λ r. ⌜ effectBy x r ≡ sums x f ⌝ }
+    ensures { λ r. ⌜ r ≡ summed x f ⌝ }
 {
-    completed::advance(x.d, f.value, flags(x, f))
+    completed::written(x.d, f.value, flags(x, f))
 }
 
 // SR asks for range on overflow, and f has overflowed.
@@ -44,11 +44,7 @@ pub fn sum_or_raise(x: Inputs, f: Flagged) -> Action
     ensures { λ r. ⌜ effectBy x r ≡ sumsOrRaises x f ⌝ }
 {
     if out_of_range(x, f) {
-        return Action::Overflow(Written {
-            place: x.d,
-            value: f.value,
-            sr: flags(x, f),
-        });
+        return Action::Overflow(sum(x, f));
     }
-    sum(x, f)
+    Action::Advance(sum(x, f))
 }

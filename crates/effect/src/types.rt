@@ -66,7 +66,7 @@ pub struct Effect {
     pub outcome: Outcome,
 }
 
-// What an instruction writes that then goes on to the next one: a word of its state, and SR.
+// What an instruction writes before it goes on or raises range: a word of its state, and SR.
 pub struct Written {
     pub place: u32,
     pub value: u32,

@@ -3,19 +3,13 @@ use mathlib.Core.Bool.{Bool, true, false, _||_, not}
 use mathlib.Core.List.{List, [], _∷_}
 use mathlib.Core.Path.{_≡_, refl, sym, subst}
 use Prim.Native.Nat.{ℕ}
-use native.Mathlib.Omega.{arith}
 use lib.Dec.{T, eqb, eqb→eq, leb→le, le→leb}
 use borrow.Author.Tests.{eq-eqb, eqb-true}
-use Rattle.bits.proofs.Tests.{and-left, and-right, and-both}
+use Rattle.bits.proofs.Tests.{and-left, and-right, and-both, T-of, Each}
 use Rattle.effect.specs.State.{halted, running}
 use Rattle.semantics.specs.Commit.{wordAt}
 use Rattle.lawful.specs.Rules.{Mode, is-halted, is-running}
 use Rattle.lawful.specs.Accepted.{all, rules, accepted, Accepted}
-
--- the tests of a list, one by one
-abbrev Each : List Bool → Type 0
-Each [] = Unit
-Each (b ∷ l) = T b × Each l
 
 each-of : (l : List Bool) → T (all l) → Each l
 each-of [] t = tt
@@ -24,10 +18,6 @@ each-of (b ∷ l) t = (and-left b (all l) t, each-of l (and-right b (all l) t))
 of-each : (l : List Bool) → Each l → T (all l)
 of-each [] t = tt
 of-each (b ∷ l) t = and-both b (all l) (t .0) (of-each l (t .1))
-
-T-of : (b : Bool) → b ≡ true → T b
-T-of true e = tt
-T-of false e = absurd (let z : _≡_ {A = ℕ} 0 1 = cc in omega arith)
 
 same : (m n : ℕ) → m ≡ n → T (eqb m n)
 same m n e = T-of (eqb m n) (eq-eqb m n e)

@@ -2,13 +2,14 @@
 use mathlib.Core.Bool.{false}
 use mathlib.Core.List.{List}
 use mathlib.Core.Path.{_≡_, ap}
-use Prim.Native.Nat.{ℕ, _+_, _/_, _%_, _<_, _≤_}
+use Prim.Native.Nat.{ℕ, _+_, _%_, _<_, _≤_}
 use native.Mathlib.Omega.{arith}
 use lib.ListN.{length}
 use borrow.Author.Tests.{ltb-false}
 use Rattle.bits.specs.Word.{field}
 use Rattle.isa.specs.InstructionSet.{decode}
-use Rattle.isa.specs.Parts.{Registers, fieldsOf}
+use Rattle.isa.specs.Entry.{fieldsOf}
+use Rattle.isa.specs.Parts.{Registers}
 use Rattle.isa.specs.declared.entry.Fields.{Fields}
 use Rattle.memory.specs.Memory.{stored, memoryWord}
 use Rattle.memory.proofs.Laws.{length-stored, other-word-kept}
@@ -45,7 +46,7 @@ module _ (board : Board) (mem s : List ℕ) (core : ℕ) where
   -- any entry's
   pub effect-sound : (entry : ℕ) → Sound (length mem) (effectOf board mem s core entry)
   unfolding inputs
-  effect-sound entry = meaning-sound board mem (field entry 56 8) (inputs s core (fieldsOf entry)) (fields-registers entry .d)
+  effect-sound entry = meaning-sound board mem (inputs s core (fieldsOf entry)) (fields-registers entry .d) (field entry 56 8)
 
   -- that of an entry that some word decodes to
   module _ (w : ℕ) where

@@ -9,7 +9,8 @@ use Rattle.bits.specs.Word.{field, extend}
 use Rattle.bits.proofs.Extend.{by-half, extend-low, extend-high, extend-lt}
 use Rattle.bits.proofs.Tests.{and-left, and-right}
 use Rattle.isa.specs.InstructionSet.{I, Form, zext, sext, jump, Row, rows, firstFit, width, read, immediate, pack, entry, decode}
-use Rattle.isa.specs.Parts.{kindOf, fieldsOf}
+use Rattle.isa.specs.Entry.{fieldsOf}
+use Rattle.isa.specs.Parts.{kindOf}
 use Rattle.isa.proofs.Complete.{decode-kind}
 use Rattle.isa.proofs.Immediates.{jump-extend}
 use Rattle.isa.proofs.Pictures.{read-lt}

@@ -2,7 +2,7 @@
 use mathlib.Core.Bool.{Bool, true, false}
 use mathlib.Core.List.{List}
 use mathlib.Core.Path.{_≡_}
-use Prim.Native.Nat.{ℕ, _<_, _≤_}
+use Prim.Native.Nat.{ℕ, _-_, _<_, _≤_}
 use native.Mathlib.Omega.{arith}
 use lib.Dec.{eqb, ltb}
 use lib.ListN.{length}
@@ -16,7 +16,7 @@ use Rattle.effect.specs.Effect.{writes, nothing, setsFlag, nop, illegal, trap, 
 use Rattle.effect.specs.declared.types.Inputs.{Inputs}
 use Rattle.effect.specs.declared.types.Board.{Board}
 use Rattle.effect.specs.declared.types.Effect.{Effect}
-use Rattle.semantics.specs.Meaning.{control, loads, immediates, compareImmediates, stores, registers, compares, caches, meaning}
+use Rattle.semantics.specs.Meaning.{control, loads, immediates, stores, registers, compares, caches, meaning}
 use Rattle.lawful.proofs.Cases.{if-law, if-both}
 
 -- P holds of every effect that a line of the table may be; J is what a jump or branch by its immediate needs
@@ -42,7 +42,7 @@ pub record Lines (P : Effect → Type 0) (J : Type 0) (mem : List ℕ) (x : Inpu
   pub of-special : (n v : ℕ) → P (setsSpecialRegister x n v)
 
 module _ (P : Effect → Type 0) (J : Type 0) (board : Board) (mem : List ℕ) (x : Inputs) (l : Lines P J mem x) where
-  control-has : (k : ℕ) → (2 ≤ k → k ≤ 5 → J) → P (control k x)
+  pub control-has : (k : ℕ) → (2 ≤ k → k ≤ 5 → J) → P (control k x)
   unfolding control
   control-has k j =
       if-law P (eqb k 2) (λ e. let h : k ≡ 2 = eqb-true k 2 e in l .of-jump (j (omega arith) (omega arith)) 0 0 (omega arith)) (λ _.
@@ -61,7 +61,7 @@ module _ (P : Effect → Type 0) (J : Type 0) (board : Board) (mem : List ℕ) (
       if-both P (eqb k 15) (l .of-register-jump 9 _ (omega arith)) (
       l .of-illegal))))))))))))))
 
-  loads-have : (k : ℕ) → P (loads mem k x)
+  pub loads-have : (k : ℕ) → P (loads mem k x)
   unfolding loads
   loads-have k =
       if-both P (eqb k 16) (l .of-load-linked) (
@@ -73,7 +73,7 @@ module _ (P : Effect → Type 0) (J : Type 0) (board : Board) (mem : List ℕ) (
       if-both P (eqb k 22) (l .of-load 2 true) (
       l .of-illegal)))))))
 
-  immediates-have : (k : ℕ) → P (immediates board k x)
+  pub immediates-have : (k : ℕ) → P (immediates board k x)
   unfolding immediates
   immediates-have k =
       if-both P (eqb k 23) (l .of-sums _ (sum-ranged (x .a) (x .immediate) 0)) (
@@ -88,22 +88,7 @@ module _ (P : Effect → Type 0) (J : Type 0) (board : Board) (mem : List ℕ) (
       if-both P (eqb k 32) (l .of-writes _) (
       l .of-illegal))))))))))
 
-  compare-immediates-have : (k : ℕ) → P (compareImmediates k x)
-  unfolding compareImmediates
-  compare-immediates-have k =
-      if-both P (eqb k 33) (l .of-flag _) (
-      if-both P (eqb k 34) (l .of-flag _) (
-      if-both P (eqb k 35) (l .of-flag _) (
-      if-both P (eqb k 36) (l .of-flag _) (
-      if-both P (eqb k 37) (l .of-flag _) (
-      if-both P (eqb k 38) (l .of-flag _) (
-      if-both P (eqb k 39) (l .of-flag _) (
-      if-both P (eqb k 40) (l .of-flag _) (
-      if-both P (eqb k 41) (l .of-flag _) (
-      if-both P (eqb k 42) (l .of-flag _) (
-      l .of-illegal))))))))))
-
-  stores-have : (k : ℕ) → P (stores (length mem) k x)
+  pub stores-have : (k : ℕ) → P (stores (length mem) k x)
   unfolding stores
   stores-have k =
       if-both P (eqb k 43) (l .of-special _ _) (
@@ -113,7 +98,7 @@ module _ (P : Effect → Type 0) (J : Type 0) (board : Board) (mem : List ℕ) (
       if-both P (eqb k 47) (l .of-store half-wide) (
       l .of-illegal)))))
 
-  registers-have : (k : ℕ) → P (registers k x)
+  pub registers-have : (k : ℕ) → P (registers k x)
   unfolding registers
   registers-have k =
       if-both P (eqb k 48) (l .of-raising-sums _ (sum-ranged (x .a) (x .b) 0)) (
@@ -137,22 +122,22 @@ module _ (P : Effect → Type 0) (J : Type 0) (board : Board) (mem : List ℕ) (
       if-both P (eqb k 66) (l .of-writes _) (
       l .of-illegal)))))))))))))))))))
 
-  compares-have : (k : ℕ) → P (compares k x)
+  pub compares-have : (n b : ℕ) → P (compares n x b)
   unfolding compares
-  compares-have k =
-      if-both P (eqb k 67) (l .of-flag _) (
-      if-both P (eqb k 68) (l .of-flag _) (
-      if-both P (eqb k 69) (l .of-flag _) (
-      if-both P (eqb k 70) (l .of-flag _) (
-      if-both P (eqb k 71) (l .of-flag _) (
-      if-both P (eqb k 72) (l .of-flag _) (
-      if-both P (eqb k 73) (l .of-flag _) (
-      if-both P (eqb k 74) (l .of-flag _) (
-      if-both P (eqb k 75) (l .of-flag _) (
-      if-both P (eqb k 76) (l .of-flag _) (
+  compares-have n b =
+      if-both P (eqb n 0) (l .of-flag _) (
+      if-both P (eqb n 1) (l .of-flag _) (
+      if-both P (eqb n 2) (l .of-flag _) (
+      if-both P (eqb n 3) (l .of-flag _) (
+      if-both P (eqb n 4) (l .of-flag _) (
+      if-both P (eqb n 5) (l .of-flag _) (
+      if-both P (eqb n 6) (l .of-flag _) (
+      if-both P (eqb n 7) (l .of-flag _) (
+      if-both P (eqb n 8) (l .of-flag _) (
+      if-both P (eqb n 9) (l .of-flag _) (
       l .of-illegal))))))))))
 
-  caches-have : (k : ℕ) → P (caches (length mem) k x)
+  pub caches-have : (k : ℕ) → P (caches (length mem) k x)
   unfolding caches
   caches-have k =
       if-both P (eqb k 77) (l .of-touch) (
@@ -166,8 +151,8 @@ module _ (P : Effect → Type 0) (J : Type 0) (board : Board) (mem : List ℕ) (
       if-both P (ltb k 16) (control-has k j) (
       if-both P (ltb k 23) (loads-have k) (
       if-both P (ltb k 33) (immediates-have k) (
-      if-both P (ltb k 43) (compare-immediates-have k) (
+      if-both P (ltb k 43) (compares-have (k - 33) (x .immediate)) (
       if-both P (ltb k 48) (stores-have k) (
       if-both P (ltb k 67) (registers-have k) (
-      if-both P (ltb k 77) (compares-have k) (
+      if-both P (ltb k 77) (compares-have (k - 67) (x .b)) (
       caches-have k)))))))

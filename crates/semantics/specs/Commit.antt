@@ -6,8 +6,7 @@ use Prim.Native.Nat.{ℕ, zero, suc, _+_, _*_, _/_}
 use lib.Dec.{eqb, ltb}
 use lib.ListN.{length, getD, set}
 use Rattle.bits.specs.Choice.{if_then_else_}
-use Rattle.bits.specs.Word.{field}
-use Rattle.isa.specs.Parts.{fieldsOf}
+use Rattle.isa.specs.Entry.{kindOfEntry, fieldsOf}
 use Rattle.isa.specs.declared.entry.Fields.{Fields}
 use Rattle.isa.specs.declared.vectors.Cause.the-variants.{Bus}
 use Rattle.memory.specs.Memory.{stored}
@@ -30,21 +29,24 @@ put s core place v = set s (core * stateWords + place) v
 abbrev pub coreCount : List ℕ → ℕ
 coreCount s = length s / stateWords
 
--- what an instruction with the fields f reads
-unfoldable pub inputs : List ℕ → ℕ → Fields → Inputs
-inputs s core f = record {
+-- what an instruction with the fields f reads, on a core whose state has these words at its places
+abbrev pub reads : ℕ → (ℕ → ℕ) → Fields → Inputs
+reads core word f = record {
   core = core;
   d = f .d;
-  a = wordAt s core (f .a);
-  b = wordAt s core (f .b);
+  a = word (f .a);
+  b = word (f .b);
   immediate = f .immediate;
-  flow = record { pc = wordAt s core pcAt; delay = wordAt s core delayAt; target = wordAt s core targetAt };
-  sr = wordAt s core srAt;
-  epcr = wordAt s core epcrAt;
-  eear = wordAt s core eearAt;
-  esr = wordAt s core esrAt;
-  link = record { held = wordAt s core linkAt; address = wordAt s core linkAddressAt };
+  flow = record { pc = word pcAt; delay = word delayAt; target = word targetAt };
+  sr = word srAt;
+  epcr = word epcrAt;
+  eear = word eearAt;
+  esr = word esrAt;
+  link = record { held = word linkAt; address = word linkAddressAt };
 }
+
+unfoldable pub inputs : List ℕ → ℕ → Fields → Inputs
+inputs s core f = reads core (wordAt s core) f
 
 -- "Writes to r0 are dropped."
 unfoldable pub putValue : List ℕ → ℕ → Effect → List ℕ
@@ -61,6 +63,11 @@ putStatus s core e =
 unfoldable pub putException : Outcome → List ℕ → ℕ → List ℕ
 putException Completed s core = s
 putException (Raised x) s core = put (put (put s core epcrAt (x .epcr)) core eearAt (x .eear)) core esrAt (x .esr)
+
+-- "An exception adds 1 to raised."
+abbrev pub raisedBy : Outcome → ℕ
+raisedBy Completed = 0
+raisedBy (Raised x) = 1
 
 -- the states after a core's effect, before links are cleared
 unfoldable pub ownState : List ℕ → ℕ → Effect → List ℕ
@@ -92,7 +99,7 @@ memoryAfter mem e = stored (e .store .width) mem (e .store .address) (e .store .
 
 -- the effect of an entry as it stands, whatever word memory holds
 abbrev pub effectOf : Board → List ℕ → List ℕ → ℕ → ℕ → Effect
-effectOf board mem s core entry = meaning board mem (field entry 56 8) (inputs s core (fieldsOf entry))
+effectOf board mem s core entry = meaning board mem (kindOfEntry entry) (inputs s core (fieldsOf entry))
 
 -- "A fetch outside memory is a bus error"; it has no fields
 abbrev pub noFields : Fields

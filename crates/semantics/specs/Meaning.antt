@@ -1,7 +1,7 @@
 -- What each kind does, a line a kind, in the order of document 01's "Words and kinds". k is the kind, x what the instruction reads.
-use mathlib.Core.Bool.{Bool, true, false, not}
+use mathlib.Core.Bool.{true, false, not}
 use mathlib.Core.List.{List}
-use Prim.Native.Nat.{ℕ}
+use Prim.Native.Nat.{ℕ, _-_}
 use lib.Bits.{bitAnd, bitOr, bitXor}
 use lib.Dec.{eqb, ltb}
 use lib.ListN.{length}
@@ -49,6 +49,10 @@ loads mem k x =
     if eqb k 22 then load x mem 2 true else  -- l.lhs
     illegal x
 
+-- "SPR number (decimal here): rA or K, bitwise."
+abbrev pub specialNumber : Inputs → ℕ
+specialNumber x = bitOr (x .a) (x .immediate)
+
 -- sums, logic and shifts with an immediate
 unfoldable pub immediates : Board → ℕ → Inputs → Effect
 immediates board k x =
@@ -57,32 +61,17 @@ immediates board k x =
     if eqb k 25 then writes x (bitAnd (x .a) (x .immediate)) else  -- l.andi
     if eqb k 26 then writes x (bitOr (x .a) (x .immediate)) else  -- l.ori
     if eqb k 27 then writes x (bitXor (x .a) (x .immediate)) else  -- l.xori
-    if eqb k 28 then writes x (specialRegister board x (bitOr (x .a) (x .immediate))) else  -- l.mfspr
+    if eqb k 28 then writes x (specialRegister board x (specialNumber x)) else  -- l.mfspr
     if eqb k 29 then writes x (shiftLeft (x .a) (x .immediate)) else  -- l.slli
     if eqb k 30 then writes x (shiftRight (x .a) (x .immediate)) else  -- l.srli
     if eqb k 31 then writes x (shiftRightSigned (x .a) (x .immediate)) else  -- l.srai
     if eqb k 32 then writes x (rotateRight (x .a) (x .immediate)) else  -- l.rori
     illegal x
 
--- set flag immediate
-unfoldable pub compareImmediates : ℕ → Inputs → Effect
-compareImmediates k x =
-    if eqb k 33 then setsFlag x (holds 0x0 (x .a) (x .immediate)) else  -- l.sfeqi
-    if eqb k 34 then setsFlag x (holds 0x1 (x .a) (x .immediate)) else  -- l.sfnei
-    if eqb k 35 then setsFlag x (holds 0x2 (x .a) (x .immediate)) else  -- l.sfgtui
-    if eqb k 36 then setsFlag x (holds 0x3 (x .a) (x .immediate)) else  -- l.sfgeui
-    if eqb k 37 then setsFlag x (holds 0x4 (x .a) (x .immediate)) else  -- l.sfltui
-    if eqb k 38 then setsFlag x (holds 0x5 (x .a) (x .immediate)) else  -- l.sfleui
-    if eqb k 39 then setsFlag x (holds 0xa (x .a) (x .immediate)) else  -- l.sfgtsi
-    if eqb k 40 then setsFlag x (holds 0xb (x .a) (x .immediate)) else  -- l.sfgesi
-    if eqb k 41 then setsFlag x (holds 0xc (x .a) (x .immediate)) else  -- l.sfltsi
-    if eqb k 42 then setsFlag x (holds 0xd (x .a) (x .immediate)) else  -- l.sflesi
-    illegal x
-
 -- l.mtspr and the stores
 unfoldable pub stores : ℕ → ℕ → Inputs → Effect
 stores len k x =
-    if eqb k 43 then setsSpecialRegister x (bitOr (x .a) (x .immediate)) (x .b) else  -- l.mtspr
+    if eqb k 43 then setsSpecialRegister x (specialNumber x) (x .b) else  -- l.mtspr
     if eqb k 44 then storeConditional x len else  -- l.swa
     if eqb k 45 then store x len 4 else  -- l.sw
     if eqb k 46 then store x len 1 else  -- l.sb
@@ -108,24 +97,24 @@ registers k x =
     if eqb k 61 then writes x (extend false 8 (x .a)) else  -- l.extbz
     if eqb k 62 then writes x (x .a) else  -- l.extws
     if eqb k 63 then writes x (x .a) else  -- l.extwz
-    if eqb k 64 then writes x (if isSet F (x .sr) then x .a else x .b) else  -- l.cmov
+    if eqb k 64 then writes x (if isSet F (x .sr) then x .a else x .b) else  -- l.cmov: "takes rA if F, else rB"
     if eqb k 65 then writes x (least 32 (x .a)) else  -- l.ff1
     if eqb k 66 then writes x (greatest 32 (x .a)) else  -- l.fl1
     illegal x
 
--- set flag
-unfoldable pub compares : ℕ → Inputs → Effect
-compares k x =
-    if eqb k 67 then setsFlag x (holds 0x0 (x .a) (x .b)) else  -- l.sfeq
-    if eqb k 68 then setsFlag x (holds 0x1 (x .a) (x .b)) else  -- l.sfne
-    if eqb k 69 then setsFlag x (holds 0x2 (x .a) (x .b)) else  -- l.sfgtu
-    if eqb k 70 then setsFlag x (holds 0x3 (x .a) (x .b)) else  -- l.sfgeu
-    if eqb k 71 then setsFlag x (holds 0x4 (x .a) (x .b)) else  -- l.sfltu
-    if eqb k 72 then setsFlag x (holds 0x5 (x .a) (x .b)) else  -- l.sfleu
-    if eqb k 73 then setsFlag x (holds 0xa (x .a) (x .b)) else  -- l.sfgts
-    if eqb k 74 then setsFlag x (holds 0xb (x .a) (x .b)) else  -- l.sfges
-    if eqb k 75 then setsFlag x (holds 0xc (x .a) (x .b)) else  -- l.sflts
-    if eqb k 76 then setsFlag x (holds 0xd (x .a) (x .b)) else  -- l.sfles
+-- The set-flag instructions, by their place n in the set-flag order; b is the second operand, a register's value or the immediate.
+unfoldable pub compares : ℕ → Inputs → ℕ → Effect
+compares n x b =
+    if eqb n 0 then setsFlag x (holds 0x0 (x .a) b) else  -- l.sfeq, l.sfeqi
+    if eqb n 1 then setsFlag x (holds 0x1 (x .a) b) else  -- l.sfne, l.sfnei
+    if eqb n 2 then setsFlag x (holds 0x2 (x .a) b) else  -- l.sfgtu, l.sfgtui
+    if eqb n 3 then setsFlag x (holds 0x3 (x .a) b) else  -- l.sfgeu, l.sfgeui
+    if eqb n 4 then setsFlag x (holds 0x4 (x .a) b) else  -- l.sfltu, l.sfltui
+    if eqb n 5 then setsFlag x (holds 0x5 (x .a) b) else  -- l.sfleu, l.sfleui
+    if eqb n 6 then setsFlag x (holds 0xa (x .a) b) else  -- l.sfgts, l.sfgtsi
+    if eqb n 7 then setsFlag x (holds 0xb (x .a) b) else  -- l.sfges, l.sfgesi
+    if eqb n 8 then setsFlag x (holds 0xc (x .a) b) else  -- l.sflts, l.sfltsi
+    if eqb n 9 then setsFlag x (holds 0xd (x .a) b) else  -- l.sfles, l.sflesi
     illegal x
 
 -- the cache instructions, which only test their byte
@@ -142,8 +131,8 @@ meaning board mem k x =
     if ltb k 16 then control k x else
     if ltb k 23 then loads mem k x else
     if ltb k 33 then immediates board k x else
-    if ltb k 43 then compareImmediates k x else
+    if ltb k 43 then compares (k - 33) x (x .immediate) else
     if ltb k 48 then stores (length mem) k x else
     if ltb k 67 then registers k x else
-    if ltb k 77 then compares k x else
+    if ltb k 77 then compares (k - 67) x (x .b) else
     caches (length mem) k x

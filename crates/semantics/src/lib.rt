@@ -1,9 +1,8 @@
 // What each kind does, a line a kind, in the order of document 01.
 ghost use mathlib.Core.Path.{_≡_};
 ghost use Prim.Native.Nat.{_<_, _≤_};
-ghost use lib.ListN.{length};
-ghost use Rattle.semantics.specs.Meaning.{control as controlOf, loads, immediates, compareImmediates, stores, registers, compares, caches};
-ghost use Rattle.effect.specs.Action.{effectBy};
+ghost use Rattle.semantics.specs.Meaning.{control as controlOf, loads, immediates, stores, registers, compares, caches};
+ghost use Rattle.effect.specs.Action.{effectBy, goesOn};
 use effect::accesses;
 use effect::completed;
 use effect::jumps;
@@ -13,8 +12,9 @@ use effect::sums;
 use effect::types::Action;
 use effect::types::Board;
 use effect::types::Inputs;
+use effect::types::Written;
 
-// Jumps and branches by an immediate; below them, no kind.
+// Jumps and branches by an immediate; below them kind 1, which is illegal, and no kind.
 pub fn branch(kind: u8, x: Inputs) -> Action
     requires { ⌜ kind < 6 ⌝ }
     ensures { λ r. ⌜ effectBy x r ≡ controlOf kind x ⌝ }
@@ -28,7 +28,7 @@ pub fn branch(kind: u8, x: Inputs) -> Action
     }
 }
 
-// L.nop, the most frequent of all, and l.movhi.
+// The most frequent of all, l.nop, and l.movhi.
 pub fn onward(kind: u8, x: Inputs) -> Action
     requires { ⌜ (6 ≤ kind) × (kind < 8) ⌝ }
     ensures { λ r. ⌜ effectBy x r ≡ controlOf kind x ⌝ }
@@ -36,7 +36,7 @@ pub fn onward(kind: u8, x: Inputs) -> Action
     if kind == 6 {
         return completed::nop(x);
     }
-    completed::write(x, arith::movhi(x.immediate))
+    Action::Advance(completed::write(x, arith::movhi(x.immediate)))
 }
 
 // Exceptions, syncs, the return from an exception, and jumps to a register.
@@ -47,9 +47,9 @@ pub fn control(kind: u8, x: Inputs) -> Action
     match kind {
         8 => raised::syscall(x),
         9 => raised::trap(x),
-        10 => completed::nothing(x),
-        11 => completed::nothing(x),
-        12 => completed::nothing(x),
+        10 => Action::Advance(completed::nothing(x)),
+        11 => Action::Advance(completed::nothing(x)),
+        12 => Action::Advance(completed::nothing(x)),
         13 => jumps::return_from_exception(x),
         14 => jumps::register_jump(x, 0, 0),
         15 => jumps::register_jump(x, 9, jumps::after_slot(x)),
@@ -74,8 +74,9 @@ pub fn load(mem: &[u8], kind: u8, x: Inputs) -> Action
 }
 
 // Sums, logic and shifts with an immediate.
-pub fn immediate(board: Board, kind: u8, x: Inputs) -> Action
-    ensures { λ r. ⌜ effectBy x r ≡ immediates board kind x ⌝ }
+pub fn immediate(board: Board, kind: u8, x: Inputs) -> Written
+    requires { ⌜ (23 ≤ kind) × (kind < 33) ⌝ }
+    ensures { λ r. ⌜ goesOn x r ≡ immediates board kind x ⌝ }
 {
     match kind {
         23 => sums::sum(x, arith::add(x.a, x.immediate, 0)),
@@ -88,35 +89,16 @@ pub fn immediate(board: Board, kind: u8, x: Inputs) -> Action
         30 => completed::write(x, arith::srl(x.a, x.immediate)),
         31 => completed::write(x, arith::sra(x.a, x.immediate)),
         32 => completed::write(x, arith::ror(x.a, x.immediate)),
-        _ => raised::illegal(x),
+        _ => completed::nothing(x), // no kind comes here
     }
 }
 
-// Set flag immediate.
-pub fn compare_immediate(kind: u8, x: Inputs) -> Action
-    ensures { λ r. ⌜ effectBy x r ≡ compareImmediates kind x ⌝ }
-{
-    match kind {
-        33 => completed::set_flag(x, arith::compare(0x0, x.a, x.immediate)),
-        34 => completed::set_flag(x, arith::compare(0x1, x.a, x.immediate)),
-        35 => completed::set_flag(x, arith::compare(0x2, x.a, x.immediate)),
-        36 => completed::set_flag(x, arith::compare(0x3, x.a, x.immediate)),
-        37 => completed::set_flag(x, arith::compare(0x4, x.a, x.immediate)),
-        38 => completed::set_flag(x, arith::compare(0x5, x.a, x.immediate)),
-        39 => completed::set_flag(x, arith::compare(0xa, x.a, x.immediate)),
-        40 => completed::set_flag(x, arith::compare(0xb, x.a, x.immediate)),
-        41 => completed::set_flag(x, arith::compare(0xc, x.a, x.immediate)),
-        42 => completed::set_flag(x, arith::compare(0xd, x.a, x.immediate)),
-        _ => raised::illegal(x),
-    }
-}
-
-// L.mtspr and the stores.
+// The stores and l.mtspr.
 pub fn store(len: usize, kind: u8, x: Inputs) -> Action
     ensures { λ r. ⌜ effectBy x r ≡ stores len kind x ⌝ }
 {
     match kind {
-        43 => special::write(x, arith::or(x.a, x.immediate), x.b),
+        43 => Action::Advance(special::write(x, arith::or(x.a, x.immediate), x.b)),
         44 => accesses::store_conditional(x, len),
         45 => accesses::store(x, len, 4),
         46 => accesses::store(x, len, 1),
@@ -125,14 +107,25 @@ pub fn store(len: usize, kind: u8, x: Inputs) -> Action
     }
 }
 
-// Sums, logic, shifts and extensions of registers.
-pub fn register(kind: u8, x: Inputs) -> Action
+// Sums and differences of registers, which may raise range.
+pub fn sum(kind: u8, x: Inputs) -> Action
+    requires { ⌜ kind < 51 ⌝ }
     ensures { λ r. ⌜ effectBy x r ≡ registers kind x ⌝ }
 {
     match kind {
         48 => sums::sum_or_raise(x, arith::add(x.a, x.b, 0)),
         49 => sums::sum_or_raise(x, arith::add(x.a, x.b, arith::carry(x.sr))),
         50 => sums::sum_or_raise(x, arith::sub(x.a, x.b)),
+        _ => raised::illegal(x),
+    }
+}
+
+// Logic, shifts and extensions of registers.
+pub fn register(kind: u8, x: Inputs) -> Written
+    requires { ⌜ (51 ≤ kind) × (kind < 67) ⌝ }
+    ensures { λ r. ⌜ goesOn x r ≡ registers kind x ⌝ }
+{
+    match kind {
         51 => completed::write(x, arith::and(x.a, x.b)),
         52 => completed::write(x, arith::or(x.a, x.b)),
         53 => completed::write(x, arith::xor(x.a, x.b)),
@@ -149,26 +142,27 @@ pub fn register(kind: u8, x: Inputs) -> Action
         64 => completed::write(x, arith::cmov(arith::flag(x.sr), x.a, x.b)),
         65 => completed::write(x, arith::ff1(x.a)),
         66 => completed::write(x, arith::fl1(x.a)),
-        _ => raised::illegal(x),
+        _ => completed::nothing(x), // no kind comes here
     }
 }
 
-// Set flag.
-pub fn compare(kind: u8, x: Inputs) -> Action
-    ensures { λ r. ⌜ effectBy x r ≡ compares kind x ⌝ }
+// Set flag, by the place in the set-flag order; b is the second operand.
+pub fn compare(n: u8, x: Inputs, b: u32) -> Written
+    requires { ⌜ n < 10 ⌝ }
+    ensures { λ r. ⌜ goesOn x r ≡ compares n x b ⌝ }
 {
-    match kind {
-        67 => completed::set_flag(x, arith::compare(0x0, x.a, x.b)),
-        68 => completed::set_flag(x, arith::compare(0x1, x.a, x.b)),
-        69 => completed::set_flag(x, arith::compare(0x2, x.a, x.b)),
-        70 => completed::set_flag(x, arith::compare(0x3, x.a, x.b)),
-        71 => completed::set_flag(x, arith::compare(0x4, x.a, x.b)),
-        72 => completed::set_flag(x, arith::compare(0x5, x.a, x.b)),
-        73 => completed::set_flag(x, arith::compare(0xa, x.a, x.b)),
-        74 => completed::set_flag(x, arith::compare(0xb, x.a, x.b)),
-        75 => completed::set_flag(x, arith::compare(0xc, x.a, x.b)),
-        76 => completed::set_flag(x, arith::compare(0xd, x.a, x.b)),
-        _ => raised::illegal(x),
+    match n {
+        0 => completed::set_flag(x, arith::compare(0x0, x.a, b)),
+        1 => completed::set_flag(x, arith::compare(0x1, x.a, b)),
+        2 => completed::set_flag(x, arith::compare(0x2, x.a, b)),
+        3 => completed::set_flag(x, arith::compare(0x3, x.a, b)),
+        4 => completed::set_flag(x, arith::compare(0x4, x.a, b)),
+        5 => completed::set_flag(x, arith::compare(0x5, x.a, b)),
+        6 => completed::set_flag(x, arith::compare(0xa, x.a, b)),
+        7 => completed::set_flag(x, arith::compare(0xb, x.a, b)),
+        8 => completed::set_flag(x, arith::compare(0xc, x.a, b)),
+        9 => completed::set_flag(x, arith::compare(0xd, x.a, b)),
+        _ => completed::nothing(x), // no place comes here
     }
 }
 

@@ -1,6 +1,6 @@
 use native.Mathlib.Omega.{arith}
 use borrow.Author.Needs.{needs}
-use borrow.Author.Tests.{eq-eqb, ne-eqb}
+use borrow.Author.Tests.{ne-eqb}
 use Rattle.semantics.specs.Meaning.{control}
 use Rattle.semantics.proofs.branch.Statement.{statement}
 use Rattle.semantics.proofs.branch.Tie as tie

@@ -1,5 +1,8 @@
+use mathlib.Core.Bool.{false}
+use mathlib.Core.List.{[], _∷_}
 use borrow.Author.Needs.{needs}
-use borrow.Author.Tests.{ne-eqb}
+use native.Mathlib.Omega.{arith}
+use Rattle.bits.proofs.Tests.{within-but}
 use Rattle.semantics.specs.Meaning.{compares}
 use Rattle.semantics.proofs.compare.Statement.{statement}
 use Rattle.semantics.proofs.compare.Tie as tie
@@ -64,8 +67,8 @@ compare-requires-10 c κs = search needs
 set-flag-requires-10 : tie.Need-set-flag-requires-10
 set-flag-requires-10 c κs = search needs
 
-illegal-requires : tie.Need-illegal-requires
-illegal-requires c κs = search needs
+nothing-requires : tie.Need-nothing-requires
+nothing-requires c κs = search needs
 
 returns : tie.Need-returns
 unfolding compares
@@ -108,8 +111,9 @@ unfolding compares
 returns-10 c = simp (c .set-flag10 .ensures, c .before .compare10 .ensures, c .before .before .match .keys10)
 
 returns-11 : tie.Need-returns-11
-unfolding compares
-returns-11 c = simp (c .illegal .ensures, ne-eqb _ _ (c .before .match .rest .1), ne-eqb _ _ (c .before .match .rest .0 .1), ne-eqb _ _ (c .before .match .rest .0 .0 .1), ne-eqb _ _ (c .before .match .rest .0 .0 .0 .1), ne-eqb _ _ (c .before .match .rest .0 .0 .0 .0 .1), ne-eqb _ _ (c .before .match .rest .0 .0 .0 .0 .0 .1), ne-eqb _ _ (c .before .match .rest .0 .0 .0 .0 .0 .0 .1), ne-eqb _ _ (c .before .match .rest .0 .0 .0 .0 .0 .0 .0 .1), ne-eqb _ _ (c .before .match .rest .0 .0 .0 .0 .0 .0 .0 .0 .1), ne-eqb _ _ (c .before .match .rest .0 .0 .0 .0 .0 .0 .0 .0 .0 .1))
+returns-11 c =
+    let p = c .before .before .pre in
+    absurd (within-but (λ _. false) (9 ∷ 8 ∷ 7 ∷ 6 ∷ 5 ∷ 4 ∷ 3 ∷ 2 ∷ 1 ∷ 0 ∷ []) 0 10 tt _ (omega arith) p (c .before .match .rest))
 
 pub compare-spec : {M : Type 1} → statement M
-compare-spec = tie.close (tie.spec compare-requires set-flag-requires compare-requires-2 set-flag-requires-2 compare-requires-3 set-flag-requires-3 compare-requires-4 set-flag-requires-4 compare-requires-5 set-flag-requires-5 compare-requires-6 set-flag-requires-6 compare-requires-7 set-flag-requires-7 compare-requires-8 set-flag-requires-8 compare-requires-9 set-flag-requires-9 compare-requires-10 set-flag-requires-10 illegal-requires returns returns-2 returns-3 returns-4 returns-5 returns-6 returns-7 returns-8 returns-9 returns-10 returns-11)
+compare-spec = tie.close (tie.spec compare-requires set-flag-requires compare-requires-2 set-flag-requires-2 compare-requires-3 set-flag-requires-3 compare-requires-4 set-flag-requires-4 compare-requires-5 set-flag-requires-5 compare-requires-6 set-flag-requires-6 compare-requires-7 set-flag-requires-7 compare-requires-8 set-flag-requires-8 compare-requires-9 set-flag-requires-9 compare-requires-10 set-flag-requires-10 nothing-requires returns returns-2 returns-3 returns-4 returns-5 returns-6 returns-7 returns-8 returns-9 returns-10 returns-11)

@@ -1,6 +1,7 @@
 use native.Mathlib.Omega.{arith}
 use borrow.Author.Needs.{needs}
-use borrow.Author.Tests.{eq-eqb, ne-eqb}
+use borrow.Author.Tests.{ne-eqb}
+use Rattle.effect.specs.Action.{effectBy}
 use Rattle.semantics.specs.Meaning.{control}
 use Rattle.semantics.proofs.control.Statement.{statement}
 use Rattle.semantics.proofs.control.Tie as tie
@@ -44,15 +45,15 @@ unfolding control
 returns-2 c = simp (c .trap .ensures, c .before .match .keys2)
 
 returns-3 : tie.Need-returns-3
-unfolding control
+unfolding control effectBy
 returns-3 c = simp (c .nothing .ensures, c .before .match .keys3)
 
 returns-4 : tie.Need-returns-4
-unfolding control
+unfolding control effectBy
 returns-4 c = simp (c .nothing2 .ensures, c .before .match .keys4)
 
 returns-5 : tie.Need-returns-5
-unfolding control
+unfolding control effectBy
 returns-5 c = simp (c .nothing3 .ensures, c .before .match .keys5)
 
 returns-6 : tie.Need-returns-6

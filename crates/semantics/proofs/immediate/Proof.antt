@@ -1,5 +1,8 @@
+use mathlib.Core.Bool.{false}
+use mathlib.Core.List.{[], _∷_}
 use borrow.Author.Needs.{needs}
-use borrow.Author.Tests.{ne-eqb}
+use Rattle.effect.specs.Effect.{sums}
+use Rattle.bits.proofs.Tests.{within-but}
 use Rattle.semantics.specs.Meaning.{immediates}
 use Rattle.semantics.proofs.immediate.Statement.{statement}
 use Rattle.semantics.proofs.immediate.Tie as tie
@@ -70,15 +73,15 @@ ror-requires c κs = search needs
 write-requires-8 : tie.Need-write-requires-8
 write-requires-8 c κs = search needs
 
-illegal-requires : tie.Need-illegal-requires
-illegal-requires c κs = search needs
+nothing-requires : tie.Need-nothing-requires
+nothing-requires c κs = search needs
 
 returns : tie.Need-returns
-unfolding immediates
+unfolding immediates sums
 returns c = simp (c .sum .ensures, c .before .add .ensures .0, c .before .before .match .keys1)
 
 returns-2 : tie.Need-returns-2
-unfolding immediates
+unfolding immediates sums
 returns-2 c = simp (c .sum2 .ensures, c .before .add2 .ensures .0, c .before .before .carry .ensures .0, c .before .before .before .match .keys2)
 
 returns-3 : tie.Need-returns-3
@@ -114,8 +117,9 @@ unfolding immediates
 returns-10 c = simp (c .write8 .ensures, c .before .ror .ensures, c .before .before .match .keys10)
 
 returns-11 : tie.Need-returns-11
-unfolding immediates
-returns-11 c = simp (c .illegal .ensures, ne-eqb _ _ (c .before .match .rest .1), ne-eqb _ _ (c .before .match .rest .0 .1), ne-eqb _ _ (c .before .match .rest .0 .0 .1), ne-eqb _ _ (c .before .match .rest .0 .0 .0 .1), ne-eqb _ _ (c .before .match .rest .0 .0 .0 .0 .1), ne-eqb _ _ (c .before .match .rest .0 .0 .0 .0 .0 .1), ne-eqb _ _ (c .before .match .rest .0 .0 .0 .0 .0 .0 .1), ne-eqb _ _ (c .before .match .rest .0 .0 .0 .0 .0 .0 .0 .1), ne-eqb _ _ (c .before .match .rest .0 .0 .0 .0 .0 .0 .0 .0 .1), ne-eqb _ _ (c .before .match .rest .0 .0 .0 .0 .0 .0 .0 .0 .0 .1))
+returns-11 c =
+    let p = c .before .before .pre in
+    absurd (within-but (λ _. false) (32 ∷ 31 ∷ 30 ∷ 29 ∷ 28 ∷ 27 ∷ 26 ∷ 25 ∷ 24 ∷ 23 ∷ []) 23 10 tt _ (p .0) (p .1) (c .before .match .rest))
 
 pub immediate-spec : {M : Type 1} → statement M
-immediate-spec = tie.close (tie.spec add-requires sum-requires carry-requires add-requires-2 sum-requires-2 and-requires write-requires or-requires write-requires-2 xor-requires write-requires-3 or-requires-2 read-requires write-requires-4 sll-requires write-requires-5 srl-requires write-requires-6 sra-requires write-requires-7 ror-requires write-requires-8 illegal-requires returns returns-2 returns-3 returns-4 returns-5 returns-6 returns-7 returns-8 returns-9 returns-10 returns-11)
+immediate-spec = tie.close (tie.spec add-requires sum-requires carry-requires add-requires-2 sum-requires-2 and-requires write-requires or-requires write-requires-2 xor-requires write-requires-3 or-requires-2 read-requires write-requires-4 sll-requires write-requires-5 srl-requires write-requires-6 sra-requires write-requires-7 ror-requires write-requires-8 nothing-requires returns returns-2 returns-3 returns-4 returns-5 returns-6 returns-7 returns-8 returns-9 returns-10 returns-11)

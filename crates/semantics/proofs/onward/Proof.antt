@@ -1,7 +1,7 @@
 use mathlib.Core.Path.{_≡_}
 use native.Mathlib.Omega.{arith}
 use borrow.Author.Needs.{needs}
-use borrow.Author.Tests.{eq-eqb, ne-eqb}
+use Rattle.effect.specs.Action.{effectBy}
 use Rattle.semantics.specs.Meaning.{control}
 use Rattle.semantics.proofs.onward.Statement.{statement}
 use Rattle.semantics.proofs.onward.Tie as tie
@@ -20,7 +20,7 @@ unfolding control
 returns c = simp (c .nop .ensures, c .before .if1 .taken)
 
 returns-2 : tie.Need-returns-2
-unfolding control
+unfolding control effectBy
 returns-2 c =
     let k = c .before .before .before .args .kind in
     let p = c .before .before .before .pre in

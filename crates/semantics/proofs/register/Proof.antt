@@ -1,29 +1,10 @@
+use mathlib.Core.Bool.{false}
+use mathlib.Core.List.{[], _∷_}
 use borrow.Author.Needs.{needs}
-use borrow.Author.Tests.{ne-eqb}
+use Rattle.bits.proofs.Tests.{within-but}
 use Rattle.semantics.specs.Meaning.{registers}
 use Rattle.semantics.proofs.register.Statement.{statement}
 use Rattle.semantics.proofs.register.Tie as tie
-
-add-requires : tie.Need-add-requires
-add-requires c κs = search needs
-
-sum-or-raise-requires : tie.Need-sum-or-raise-requires
-sum-or-raise-requires c κs = search needs
-
-carry-requires : tie.Need-carry-requires
-carry-requires c κs = search needs
-
-add-requires-2 : tie.Need-add-requires-2
-add-requires-2 c κs = search needs
-
-sum-or-raise-requires-2 : tie.Need-sum-or-raise-requires-2
-sum-or-raise-requires-2 c κs = search needs
-
-sub-requires : tie.Need-sub-requires
-sub-requires c κs = search needs
-
-sum-or-raise-requires-3 : tie.Need-sum-or-raise-requires-3
-sum-or-raise-requires-3 c κs = search needs
 
 and-requires : tie.Need-and-requires
 and-requires c κs = search needs
@@ -118,88 +99,77 @@ fl1-requires c κs = search needs
 write-requires-16 : tie.Need-write-requires-16
 write-requires-16 c κs = search needs
 
-illegal-requires : tie.Need-illegal-requires
-illegal-requires c κs = search needs
+nothing-requires : tie.Need-nothing-requires
+nothing-requires c κs = search needs
 
 returns : tie.Need-returns
 unfolding registers
-returns c = simp (c .sum-or-raise .ensures, c .before .add .ensures .0, c .before .before .match .keys1)
+returns c = simp (c .write .ensures, c .before .and .ensures, c .before .before .match .keys1)
 
 returns-2 : tie.Need-returns-2
 unfolding registers
-returns-2 c = simp (c .sum-or-raise2 .ensures, c .before .add2 .ensures .0, c .before .before .carry .ensures .0, c .before .before .before .match .keys2)
+returns-2 c = simp (c .write2 .ensures, c .before .or .ensures, c .before .before .match .keys2)
 
 returns-3 : tie.Need-returns-3
 unfolding registers
-returns-3 c = simp (c .sum-or-raise3 .ensures, c .before .sub .ensures .0, c .before .before .match .keys3)
+returns-3 c = simp (c .write3 .ensures, c .before .xor .ensures, c .before .before .match .keys3)
 
 returns-4 : tie.Need-returns-4
 unfolding registers
-returns-4 c = simp (c .write .ensures, c .before .and .ensures, c .before .before .match .keys4)
+returns-4 c = simp (c .write4 .ensures, c .before .sll .ensures, c .before .before .match .keys4)
 
 returns-5 : tie.Need-returns-5
 unfolding registers
-returns-5 c = simp (c .write2 .ensures, c .before .or .ensures, c .before .before .match .keys5)
+returns-5 c = simp (c .write5 .ensures, c .before .srl .ensures, c .before .before .match .keys5)
 
 returns-6 : tie.Need-returns-6
 unfolding registers
-returns-6 c = simp (c .write3 .ensures, c .before .xor .ensures, c .before .before .match .keys6)
+returns-6 c = simp (c .write6 .ensures, c .before .sra .ensures, c .before .before .match .keys6)
 
 returns-7 : tie.Need-returns-7
 unfolding registers
-returns-7 c = simp (c .write4 .ensures, c .before .sll .ensures, c .before .before .match .keys7)
+returns-7 c = simp (c .write7 .ensures, c .before .ror .ensures, c .before .before .match .keys7)
 
 returns-8 : tie.Need-returns-8
 unfolding registers
-returns-8 c = simp (c .write5 .ensures, c .before .srl .ensures, c .before .before .match .keys8)
+returns-8 c = simp (c .write8 .ensures, c .before .sign-extend .ensures, c .before .before .match .keys8)
 
 returns-9 : tie.Need-returns-9
 unfolding registers
-returns-9 c = simp (c .write6 .ensures, c .before .sra .ensures, c .before .before .match .keys9)
+returns-9 c = simp (c .write9 .ensures, c .before .sign-extend2 .ensures, c .before .before .match .keys9)
 
 returns-10 : tie.Need-returns-10
 unfolding registers
-returns-10 c = simp (c .write7 .ensures, c .before .ror .ensures, c .before .before .match .keys10)
+returns-10 c = simp (c .write10 .ensures, c .before .zero-extend .ensures, c .before .before .match .keys10)
 
 returns-11 : tie.Need-returns-11
 unfolding registers
-returns-11 c = simp (c .write8 .ensures, c .before .sign-extend .ensures, c .before .before .match .keys11)
+returns-11 c = simp (c .write11 .ensures, c .before .zero-extend2 .ensures, c .before .before .match .keys11)
 
 returns-12 : tie.Need-returns-12
 unfolding registers
-returns-12 c = simp (c .write9 .ensures, c .before .sign-extend2 .ensures, c .before .before .match .keys12)
+returns-12 c = simp (c .write12 .ensures, c .before .match .keys12)
 
 returns-13 : tie.Need-returns-13
 unfolding registers
-returns-13 c = simp (c .write10 .ensures, c .before .zero-extend .ensures, c .before .before .match .keys13)
+returns-13 c = simp (c .write13 .ensures, c .before .match .keys13)
 
 returns-14 : tie.Need-returns-14
 unfolding registers
-returns-14 c = simp (c .write11 .ensures, c .before .zero-extend2 .ensures, c .before .before .match .keys14)
+returns-14 c = simp (c .write14 .ensures, c .before .cmov .ensures, c .before .before .flag .ensures, c .before .before .before .match .keys14)
 
 returns-15 : tie.Need-returns-15
 unfolding registers
-returns-15 c = simp (c .write12 .ensures, c .before .match .keys15)
+returns-15 c = simp (c .write15 .ensures, c .before .ff1 .ensures, c .before .before .match .keys15)
 
 returns-16 : tie.Need-returns-16
 unfolding registers
-returns-16 c = simp (c .write13 .ensures, c .before .match .keys16)
+returns-16 c = simp (c .write16 .ensures, c .before .fl1 .ensures, c .before .before .match .keys16)
 
 returns-17 : tie.Need-returns-17
-unfolding registers
-returns-17 c = simp (c .write14 .ensures, c .before .cmov .ensures, c .before .before .flag .ensures, c .before .before .before .match .keys17)
-
-returns-18 : tie.Need-returns-18
-unfolding registers
-returns-18 c = simp (c .write15 .ensures, c .before .ff1 .ensures, c .before .before .match .keys18)
-
-returns-19 : tie.Need-returns-19
-unfolding registers
-returns-19 c = simp (c .write16 .ensures, c .before .fl1 .ensures, c .before .before .match .keys19)
-
-returns-20 : tie.Need-returns-20
-unfolding registers
-returns-20 c = simp (c .illegal .ensures, ne-eqb _ _ (c .before .match .rest .1), ne-eqb _ _ (c .before .match .rest .0 .1), ne-eqb _ _ (c .before .match .rest .0 .0 .1), ne-eqb _ _ (c .before .match .rest .0 .0 .0 .1), ne-eqb _ _ (c .before .match .rest .0 .0 .0 .0 .1), ne-eqb _ _ (c .before .match .rest .0 .0 .0 .0 .0 .1), ne-eqb _ _ (c .before .match .rest .0 .0 .0 .0 .0 .0 .1), ne-eqb _ _ (c .before .match .rest .0 .0 .0 .0 .0 .0 .0 .1), ne-eqb _ _ (c .before .match .rest .0 .0 .0 .0 .0 .0 .0 .0 .1), ne-eqb _ _ (c .before .match .rest .0 .0 .0 .0 .0 .0 .0 .0 .0 .1), ne-eqb _ _ (c .before .match .rest .0 .0 .0 .0 .0 .0 .0 .0 .0 .0 .1), ne-eqb _ _ (c .before .match .rest .0 .0 .0 .0 .0 .0 .0 .0 .0 .0 .0 .1), ne-eqb _ _ (c .before .match .rest .0 .0 .0 .0 .0 .0 .0 .0 .0 .0 .0 .0 .1), ne-eqb _ _ (c .before .match .rest .0 .0 .0 .0 .0 .0 .0 .0 .0 .0 .0 .0 .0 .1), ne-eqb _ _ (c .before .match .rest .0 .0 .0 .0 .0 .0 .0 .0 .0 .0 .0 .0 .0 .0 .1), ne-eqb _ _ (c .before .match .rest .0 .0 .0 .0 .0 .0 .0 .0 .0 .0 .0 .0 .0 .0 .0 .1), ne-eqb _ _ (c .before .match .rest .0 .0 .0 .0 .0 .0 .0 .0 .0 .0 .0 .0 .0 .0 .0 .0 .1), ne-eqb _ _ (c .before .match .rest .0 .0 .0 .0 .0 .0 .0 .0 .0 .0 .0 .0 .0 .0 .0 .0 .0 .1), ne-eqb _ _ (c .before .match .rest .0 .0 .0 .0 .0 .0 .0 .0 .0 .0 .0 .0 .0 .0 .0 .0 .0 .0 .1))
+returns-17 c =
+    let p = c .before .before .pre in
+    absurd (within-but (λ _. false) (66 ∷ 65 ∷ 64 ∷ 63 ∷ 62 ∷ 61 ∷ 60 ∷ 59 ∷ 58 ∷ 57 ∷ 56 ∷ 55 ∷ 54 ∷ 53 ∷ 52 ∷ 51 ∷ []) 51 16 tt _ (p .0) (p .1) (c .before .match .rest))
 
 pub register-spec : {M : Type 1} → statement M
-register-spec = tie.close (tie.spec add-requires sum-or-raise-requires carry-requires add-requires-2 sum-or-raise-requires-2 sub-requires sum-or-raise-requires-3 and-requires write-requires or-requires write-requires-2 xor-requires write-requires-3 sll-requires write-requires-4 srl-requires write-requires-5 sra-requires write-requires-6 ror-requires write-requires-7 sign-extend-requires write-requires-8 sign-extend-requires-2 write-requires-9 zero-extend-requires write-requires-10 zero-extend-requires-2 write-requires-11 write-requires-12 write-requires-13 flag-requires cmov-requires write-requires-14 ff1-requires write-requires-15 fl1-requires write-requires-16 illegal-requires returns returns-2 returns-3 returns-4 returns-5 returns-6 returns-7 returns-8 returns-9 returns-10 returns-11 returns-12 returns-13 returns-14 returns-15 returns-16 returns-17 returns-18 returns-19 returns-20)
+register-spec = tie.close (tie.spec and-requires write-requires or-requires write-requires-2 xor-requires write-requires-3 sll-requires write-requires-4 srl-requires write-requires-5 sra-requires write-requires-6 ror-requires write-requires-7 sign-extend-requires write-requires-8 sign-extend-requires-2 write-requires-9 zero-extend-requires write-requires-10 zero-extend-requires-2 write-requires-11 write-requires-12 write-requires-13 flag-requires cmov-requires write-requires-14 ff1-requires write-requires-15 fl1-requires write-requires-16 nothing-requires returns returns-2 returns-3 returns-4 returns-5 returns-6 returns-7 returns-8 returns-9 returns-10 returns-11 returns-12 returns-13 returns-14 returns-15 returns-16 returns-17)

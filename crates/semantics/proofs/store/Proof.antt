@@ -1,6 +1,7 @@
 use borrow.Author.Needs.{needs}
 use borrow.Author.Tests.{ne-eqb}
 use Rattle.memory.specs.Memory.{byte-wide, half-wide, word-wide}
+use Rattle.effect.specs.Action.{effectBy}
 use Rattle.semantics.specs.Meaning.{stores}
 use Rattle.semantics.proofs.store.Statement.{statement}
 use Rattle.semantics.proofs.store.Tie as tie
@@ -27,7 +28,7 @@ illegal-requires : tie.Need-illegal-requires
 illegal-requires c κs = search needs
 
 returns : tie.Need-returns
-unfolding stores
+unfolding stores effectBy
 returns c = simp (c .write .ensures, c .before .or .ensures, c .before .before .match .keys1)
 
 returns-2 : tie.Need-returns-2

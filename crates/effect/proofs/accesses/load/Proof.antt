@@ -3,6 +3,7 @@ use lib.ListN.{length}
 use Rattle.memory.specs.declared.Access.the-variants.{Granted}
 use Rattle.memory.proofs.Laws.{same-tag, granted-inside}
 use Rattle.effect.specs.Effect.{load}
+use Rattle.effect.specs.Action.{effectBy}
 use Rattle.effect.proofs.Access.{answered, misaligned, off-bus}
 use borrow.Author.Needs.{needs}
 use Rattle.effect.proofs.accesses.load.Statement.{statement}
@@ -37,7 +38,7 @@ fault-requires-2 : tie.Need-fault-requires-2
 fault-requires-2 c κs = search needs
 
 returns : tie.Need-returns
-unfolding load
+unfolding load effectBy
 returns c = answered (c .before .before .before .before .before .before .before .args .x) (c .before .before .before .before .before .before .before .args .width) (length (c .before .before .before .before .before .before .before .args .mem .now)) (c .before .before .before .before .before .address .result) (c .before .before .before .before .test .result) (c .before .before .before .before .before .address .ensures) (c .before .before .before .before .test .ensures) (c .before .before .before .match .keys1) _ _ (simp (c .write .ensures, c .before .load-extended .ensures, c .before .before .before .before .before .address .ensures))
 
 returns-2 : tie.Need-returns-2

@@ -1,6 +1,7 @@
 use Rattle.memory.specs.Memory.{byte-wide}
 use Rattle.effect.proofs.Access.{answered, misaligned, off-bus}
 use Rattle.effect.specs.Effect.{touch}
+use Rattle.effect.specs.Action.{effectBy}
 use borrow.Author.Needs.{needs}
 use Rattle.effect.proofs.accesses.touch.Statement.{statement}
 use Rattle.effect.proofs.accesses.touch.Tie as tie
@@ -30,7 +31,7 @@ fault-requires-2 : tie.Need-fault-requires-2
 fault-requires-2 c κs = search needs
 
 returns : tie.Need-returns
-unfolding touch
+unfolding touch effectBy
 returns c = answered (c .before .before .before .before .before .args .x) 1 (c .before .before .before .before .before .args .len) (c .before .before .before .before .address .result) (c .before .before .before .test .result) (c .before .before .before .before .address .ensures) (c .before .before .before .test .ensures) (c .before .before .match .keys1) _ _ (simp (c .nothing .ensures))
 
 returns-2 : tie.Need-returns-2

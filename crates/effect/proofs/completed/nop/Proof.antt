@@ -13,7 +13,7 @@ nothing-requires : tie.Need-nothing-requires
 nothing-requires c κs = search needs
 
 returns-2 : tie.Need-returns-2
-unfolding nop
+unfolding nop effectBy
 returns-2 c = simp (c .nothing .ensures, ne-eqb _ _ (c .before .if1 .left))
 
 pub nop-spec : {M : Type 1} → statement M

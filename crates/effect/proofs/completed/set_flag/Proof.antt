@@ -6,12 +6,12 @@ use Rattle.effect.proofs.completed.set_flag.Tie as tie
 set-flag-requires : tie.Need-set-flag-requires
 set-flag-requires c κs = search needs
 
-advance-requires : tie.Need-advance-requires
-advance-requires c κs = search needs
+written-requires : tie.Need-written-requires
+written-requires c κs = search needs
 
 returns : tie.Need-returns
 unfolding setsFlag
-returns c = simp (c .advance .ensures, c .before .set-flag .ensures)
+returns c = simp (c .written .ensures, c .before .set-flag .ensures)
 
 pub set-flag-spec : {M : Type 1} → statement M
-set-flag-spec = tie.close (tie.spec set-flag-requires advance-requires returns)
+set-flag-spec = tie.close (tie.spec set-flag-requires written-requires returns)

@@ -1,12 +1,14 @@
+use mathlib.Core.Path.{ap}
+use Rattle.effect.specs.Action.{goesOn}
 use borrow.Author.Needs.{needs}
 use Rattle.effect.proofs.completed.write.Statement.{statement}
 use Rattle.effect.proofs.completed.write.Tie as tie
 
-advance-requires : tie.Need-advance-requires
-advance-requires c κs = search needs
+written-requires : tie.Need-written-requires
+written-requires c κs = search needs
 
 returns : tie.Need-returns
-returns c = c .advance .ensures _
+returns c = ap (goesOn (c .before .args .x)) (c .written .ensures)
 
 pub write-spec : {M : Type 1} → statement M
-write-spec = tie.close (tie.spec advance-requires returns)
+write-spec = tie.close (tie.spec written-requires returns)

@@ -1,4 +1,4 @@
-use mathlib.Core.Path.{sym, ap, _∙_}
+use mathlib.Core.Path.{sym, _∙_}
 use Rattle.effect.specs.Effect.{syscall}
 use Rattle.effect.specs.Action.{effectBy}
 use borrow.Author.Needs.{needs}

@@ -7,42 +7,42 @@ use Rattle.effect.proofs.special.write.Tie as tie
 keep-allowed-requires : tie.Need-keep-allowed-requires
 keep-allowed-requires c κs = search needs
 
-advance-requires : tie.Need-advance-requires
-advance-requires c κs = search needs
+written-requires : tie.Need-written-requires
+written-requires c κs = search needs
 
 align-requires : tie.Need-align-requires
 align-requires c κs = search needs
 
-advance-requires-2 : tie.Need-advance-requires-2
-advance-requires-2 c κs = search needs
+written-requires-2 : tie.Need-written-requires-2
+written-requires-2 c κs = search needs
 
-advance-requires-3 : tie.Need-advance-requires-3
-advance-requires-3 c κs = search needs
+written-requires-3 : tie.Need-written-requires-3
+written-requires-3 c κs = search needs
 
 keep-allowed-requires-2 : tie.Need-keep-allowed-requires-2
 keep-allowed-requires-2 c κs = search needs
 
-advance-requires-4 : tie.Need-advance-requires-4
-advance-requires-4 c κs = search needs
+written-requires-4 : tie.Need-written-requires-4
+written-requires-4 c κs = search needs
 
 nothing-requires : tie.Need-nothing-requires
 nothing-requires c κs = search needs
 
 returns : tie.Need-returns
 unfolding setsSpecialRegister
-returns c = simp (c .advance .ensures, c .before .keep-allowed .ensures, c .before .before .match .keys1)
+returns c = simp (c .written .ensures, c .before .keep-allowed .ensures, c .before .before .match .keys1)
 
 returns-2 : tie.Need-returns-2
 unfolding setsSpecialRegister
-returns-2 c = simp (c .advance2 .ensures, c .before .align .ensures, c .before .before .match .keys2)
+returns-2 c = simp (c .written2 .ensures, c .before .align .ensures, c .before .before .match .keys2)
 
 returns-3 : tie.Need-returns-3
 unfolding setsSpecialRegister
-returns-3 c = simp (c .advance3 .ensures, c .before .match .keys3)
+returns-3 c = simp (c .written3 .ensures, c .before .match .keys3)
 
 returns-4 : tie.Need-returns-4
 unfolding setsSpecialRegister
-returns-4 c = simp (c .advance4 .ensures, c .before .keep-allowed2 .ensures, c .before .before .match .keys4)
+returns-4 c = simp (c .written4 .ensures, c .before .keep-allowed2 .ensures, c .before .before .match .keys4)
 
 returns-5 : tie.Need-returns-5
 unfolding setsSpecialRegister
@@ -53,12 +53,12 @@ write-spec =
     tie.close
     (tie.spec
     keep-allowed-requires
-    advance-requires
+    written-requires
     align-requires
-    advance-requires-2
-    advance-requires-3
+    written-requires-2
+    written-requires-3
     keep-allowed-requires-2
-    advance-requires-4
+    written-requires-4
     nothing-requires
     returns
     returns-2

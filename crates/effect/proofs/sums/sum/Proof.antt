@@ -1,4 +1,3 @@
-use Rattle.effect.specs.Effect.{sums}
 use borrow.Author.Needs.{needs}
 use Rattle.effect.proofs.sums.sum.Statement.{statement}
 use Rattle.effect.proofs.sums.sum.Tie as tie
@@ -6,12 +5,11 @@ use Rattle.effect.proofs.sums.sum.Tie as tie
 flags-requires : tie.Need-flags-requires
 flags-requires c κs = search needs
 
-advance-requires : tie.Need-advance-requires
-advance-requires c κs = search needs
+written-requires : tie.Need-written-requires
+written-requires c κs = search needs
 
 returns : tie.Need-returns
-unfolding sums
-returns c = simp (c .advance .ensures, c .before .flags .ensures)
+returns c = simp (c .written .ensures, c .before .flags .ensures)
 
 pub sum-spec : {M : Type 1} → statement M
-sum-spec = tie.close (tie.spec flags-requires advance-requires returns)
+sum-spec = tie.close (tie.spec flags-requires written-requires returns)
