@@ -1,2 +1,4 @@
-pub mod Actions
 pub mod Commits
+mod Executes
+mod Groups
+pub mod Own

@@ -1,32 +1,54 @@
--- What a commit tells the run of an effect.
+-- What the parts of one instruction promise one another, and what it tells the run. Nothing here is document 01's.
 use mathlib.Core.List.{List}
 use mathlib.Core.Path.{_≡_}
 use Prim.Native.Nat.{ℕ}
-use Rattle.effect.specs.declared.types.Effect.{Effect}
-use Rattle.effect.specs.declared.types.Outcome.{Outcome}
-use Rattle.effect.specs.declared.types.Outcome.the-variants.{Completed, Raised}
-use Rattle.isa.specs.Parts.{fieldsOf}
+use lib.Dec.{ltb}
+use lib.ListN.{getD}
+use Rattle.isa.specs.Entry.{fieldsOf}
+use Rattle.isa.specs.declared.entry.Fields.{Fields}
 use Rattle.effect.specs.Action.{effectBy}
+use Rattle.effect.specs.declared.types.Inputs.{Inputs}
+use Rattle.effect.specs.declared.types.Effect.{Effect}
+use Rattle.effect.specs.declared.types.Store.{Store}
 use Rattle.effect.specs.declared.types.Action.{Action}
-use Rattle.semantics.specs.Commit.{inputs, ownState, stores, touched, memoryAfter, statesAfter}
+use Rattle.semantics.specs.Commit.{reads, ownState, memoryAfter, statesAfter, raisedBy}
 use Rattle.exec.specs.declared.Done.{Done}
 
--- "An exception adds 1 to raised."
-abbrev pub raisedBy : Outcome → ℕ
-raisedBy Completed = 0
-raisedBy (Raised x) = 1
+-- what the run is told of r exceptions and a store
+abbrev pub tells : ℕ → Store → Done
+tells r s = record { raised = r; stored = ltb 0 (s .width); address = s .address }
 
 abbrev pub doneBy : Effect → Done
-doneBy e = record { raised = raisedBy (e .outcome); stored = stores e; word = touched e }
+doneBy e = tells (raisedBy (e .outcome)) (e .store)
 
--- the effect of an entry's action, on the states s
+-- ---- One core's own state, by itself: it is read and written as the states of a board with one core are.
+
+abbrev pub ownInputs : List ℕ → ℕ → Fields → Inputs
+ownInputs own core f = reads core (λ (place : ℕ). getD own place 0) f
+
+abbrev pub entryInputs : List ℕ → ℕ → ℕ → Inputs
+entryInputs own core entry = ownInputs own core (fieldsOf entry)
+
+-- the effect of an entry's action
 abbrev pub actionEffect : List ℕ → ℕ → ℕ → Action → Effect
-actionEffect s core entry a = effectBy (inputs s core (fieldsOf entry)) a
+actionEffect own core entry a = effectBy (entryInputs own core entry) a
 
--- the effect e turned the core's own state in s into that in s′, and raised r exceptions
-pub record Owned (s : List ℕ) (core : ℕ) (e : Effect) (s′ : List ℕ) (r : ℕ) : Type 0 where
-  pub own : s′ ≡ ownState s core e
+-- the effect e turned own into own′, and raised r exceptions
+pub record Owned (own : List ℕ) (e : Effect) (own′ : List ℕ) (r : ℕ) : Type 0 where
+  pub left : own′ ≡ ownState own 0 e
   pub raised : r ≡ raisedBy (e .outcome)
+
+-- the effect e turned memory mem and own into mem′ and own′, and the answer is r
+pub record Performed (mem own : List ℕ) (e : Effect) (mem′ own′ : List ℕ) (r : Done) : Type 0 where
+  pub memory : mem′ ≡ memoryAfter mem e
+  pub left : own′ ≡ ownState own 0 e
+  pub done : r ≡ doneBy e
+
+-- the same of an effect that leaves every memory as it is
+abbrev pub Kept : List ℕ → Effect → List ℕ → Done → Type 0
+Kept own e own′ r = (mem : List ℕ) → Performed mem own e mem own′ r
+
+-- ---- Every core's state
 
 -- the effect e of a core turned memory mem and the states s into mem′ and s′, and the answer is r
 pub record Executed (mem s : List ℕ) (core : ℕ) (e : Effect) (mem′ s′ : List ℕ) (r : Done) : Type 0 where

@@ -1,17 +1,20 @@
-// Committing what an instruction does: its core's state, memory, and every core's link.
+// Committing what an instruction does: its core's own state, memory, and every core's link.
 ghost use mathlib.Core.Path.{_≡_};
 ghost use Prim.Native.Nat.{_+_, _*_, _≤_, _<_};
 ghost use lib.ListN.{length};
-ghost use Rattle.semantics.specs.Commit.{putValue, putFlow, putStatus, putException, ownState, clearLink, clearLinks, coreCount};
-ghost use Rattle.lawful.specs.Sound.{Sound};
-ghost use Rattle.exec.specs.Report.{raisedBy, actionEffect, Owned, Executed};
+ghost use Rattle.memory.specs.Memory.{stored as storedOf};
+ghost use Rattle.effect.specs.Action.{effectBy};
+ghost use Rattle.effect.specs.declared.types.Inputs.{Inputs};
+ghost use Rattle.semantics.specs.Commit.{putValue, putFlow, putStatus, putException, clearLink, clearLinks, coreCount, memoryAfter, raisedBy};
+ghost use Rattle.lawful.specs.Sound.{Sound, SoundStore};
+ghost use Rattle.exec.specs.Report.{tells, actionEffect, Owned, Performed, Kept};
 use crate::Done;
-use crate::STATE_WORDS;
 use crate::inputs_at;
 use effect::accesses;
 use effect::action;
 use effect::completed;
 use effect::jumps;
+use effect::state;
 use effect::types::Action;
 use effect::types::Effect;
 use effect::types::Exception;
@@ -21,127 +24,208 @@ use effect::types::Store;
 use effect::types::Written;
 
 // The register, or special-purpose register, that an effect writes; r0 is dropped.
-fn put_value(states: &mut [u32], core: usize, e: Effect)
-    requires { ⌜ core * 42 + 42 ≤ length (now states) ⌝ }
+fn put_value(own: &mut [u32], e: Effect)
+    requires { ⌜ 42 ≤ length (now own) ⌝ }
     requires { ⌜ e .place < 42 ⌝ }
-    ensures { λ _. ⌜ now (states .exit) ≡ putValue (now (states .entry)) core e ⌝ }
+    ensures { λ _. ⌜ now (own .exit) ≡ putValue (now (own .entry)) 0 e ⌝ }
 {
-    let at = core * STATE_WORDS + e.place as usize;
-    if e.place == 0 {} else {
-        states[at] = e.value;
+    if e.place != 0 {
+        own[e.place as usize] = e.value;
     }
 }
 
-fn put_flow(states: &mut [u32], core: usize, e: Effect)
-    requires { ⌜ core * 42 + 42 ≤ length (now states) ⌝ }
-    ensures { λ _. ⌜ now (states .exit) ≡ putFlow (now (states .entry)) core e ⌝ }
+fn put_flow(own: &mut [u32], e: Effect)
+    requires { ⌜ 42 ≤ length (now own) ⌝ }
+    ensures { λ _. ⌜ now (own .exit) ≡ putFlow (now (own .entry)) 0 e ⌝ }
 {
-    let base = core * STATE_WORDS;
-    states[base + 32] = e.flow.pc;
-    states[base + 33] = e.flow.delay;
-    states[base + 34] = e.flow.target;
+    own[state::PC] = e.flow.pc;
+    own[state::DELAY] = e.flow.delay;
+    own[state::TARGET] = e.flow.target;
 }
 
-fn put_status(states: &mut [u32], core: usize, e: Effect)
-    requires { ⌜ core * 42 + 42 ≤ length (now states) ⌝ }
-    ensures { λ _. ⌜ now (states .exit) ≡ putStatus (now (states .entry)) core e ⌝ }
+fn put_status(own: &mut [u32], e: Effect)
+    requires { ⌜ 42 ≤ length (now own) ⌝ }
+    ensures { λ _. ⌜ now (own .exit) ≡ putStatus (now (own .entry)) 0 e ⌝ }
 {
-    let base = core * STATE_WORDS;
-    states[base + 35] = e.sr;
-    states[base + 39] = e.link.held;
-    states[base + 40] = e.link.address;
-    states[base + 41] = e.mode;
+    own[state::SR] = e.sr;
+    own[state::LINK] = e.link.held;
+    own[state::LINK_ADDRESS] = e.link.address;
+    own[state::MODE] = e.mode;
 }
 
-fn put_registers(states: &mut [u32], core: usize, x: Exception)
-    requires { ⌜ core * 42 + 42 ≤ length (now states) ⌝ }
-    ensures { λ _. ⌜ now (states .exit) ≡ putException (Outcome.Raised x) (now (states .entry)) core ⌝ }
+// EPCR, EEAR and ESR of an exception.
+fn put_raised(own: &mut [u32], x: Exception)
+    requires { ⌜ 42 ≤ length (now own) ⌝ }
+    ensures { λ _. ⌜ now (own .exit) ≡ putException (Outcome.Raised x) (now (own .entry)) 0 ⌝ }
 {
-    let base = core * STATE_WORDS;
-    states[base + 36] = x.epcr;
-    states[base + 37] = x.eear;
-    states[base + 38] = x.esr;
+    own[state::EPCR] = x.epcr;
+    own[state::EEAR] = x.eear;
+    own[state::ESR] = x.esr;
 }
 
-// EPCR, EEAR and ESR of an exception; answers how many were raised.
-fn put_exception(states: &mut [u32], core: usize, e: Effect) -> u32
-    requires { ⌜ core * 42 + 42 ≤ length (now states) ⌝ }
-    ensures { λ r. ⌜ (now (states .exit) ≡ putException (e .outcome) (now (states .entry)) core) × (r ≡ raisedBy (e .outcome)) ⌝ }
+// How the step ends; answers how many exceptions were raised.
+fn put_outcome(own: &mut [u32], outcome: Outcome) -> u32
+    requires { ⌜ 42 ≤ length (now own) ⌝ }
+    ensures { λ r. ⌜ (now (own .exit) ≡ putException outcome (now (own .entry)) 0) × (r ≡ raisedBy outcome) ⌝ }
 {
-    let outcome = e.outcome;
     match outcome {
         Outcome::Completed => 0,
         Outcome::Raised(x) => {
-            put_registers(states, core, x);
+            put_raised(own, x);
             1
         }
     }
 }
 
 // The core's own state; answers how many exceptions were raised.
-pub fn commit_state(states: &mut [u32], core: usize, e: Effect) -> u32
-    requires { ⌜ core * 42 + 42 ≤ length (now states) ⌝ }
+pub fn commit_state(own: &mut [u32], e: Effect) -> u32
+    requires { ⌜ 42 ≤ length (now own) ⌝ }
     requires { ⌜ e .place < 42 ⌝ }
-    ensures { λ r. ⌜ (now (states .exit) ≡ ownState (now (states .entry)) core e) × (r ≡ raisedBy (e .outcome)) ⌝ }
+    ensures { λ r. ⌜ Owned (now (own .entry)) e (now (own .exit)) r ⌝ }
 {
-    put_value(states, core, e);
-    put_flow(states, core, e);
-    put_status(states, core, e);
-    put_exception(states, core, e)
+    put_value(own, e);
+    put_flow(own, e);
+    put_status(own, e);
+    let outcome = e.outcome;
+    put_outcome(own, outcome)
 }
 
-// Each of these reads its inputs itself, so that nothing is read that its action does not use. The three frequent actions come first.
-fn own_advance(states: &mut [u32], core: usize, entry: u64, w: Written) -> u32
-    requires { ⌜ core * 42 + 42 ≤ length (now states) ⌝ }
+// The bytes that an instruction stores.
+fn put_store(memory: &mut [u8], s: Store)
+    requires { ⌜ SoundStore (length (now memory)) s ⌝ }
+    ensures { λ _. ⌜ now (memory .exit) ≡ storedOf (s .width) (now (memory .entry)) (s .address) (s .value) ⌝ }
+{
+    if 0 < s.width {
+        memory::store(memory, s.address, s.width, s.value);
+    }
+}
+
+// What an action tells the run.
+fn done(raised: u32, action: Action) -> Done
+    ensures { λ r. ⌜ ((x : Inputs) → r ≡ tells raised (effectBy x action .store)) ⌝ }
+{
+    let store = action::store_of(action);
+    Done {
+        raised,
+        stored: 0 < store.width,
+        address: store.address,
+    }
+}
+
+// The frequent actions. Each reads its inputs itself, so that nothing is read that it does not use.
+pub fn advance(own: &mut [u32], core: usize, entry: u64, w: Written) -> Done
+    requires { ⌜ 42 ≤ length (now own) ⌝ }
     requires { ⌜ core < 4 ⌝ }
     requires { ⌜ w .place < 42 ⌝ }
-    ensures { λ r. ⌜ Owned (now (states .entry)) core (actionEffect (now (states .entry)) core entry (Action.Advance w)) (now (states .exit)) r ⌝ }
+    ensures { λ r. ⌜ Kept (now (own .entry)) (actionEffect (now (own .entry)) core entry (Action.Advance w)) (now (own .exit)) r ⌝ }
 {
-    let x = inputs_at(states, core, entry);
-    commit_state(states, core, completed::advanced(x, w))
+    let x = inputs_at(own, core, entry);
+    let raised = commit_state(own, completed::advanced(x, w));
+    Done {
+        raised,
+        stored: false,
+        address: 0,
+    }
 }
 
-fn own_jump(states: &mut [u32], core: usize, entry: u64, j: Jumped) -> u32
-    requires { ⌜ core * 42 + 42 ≤ length (now states) ⌝ }
+fn jump(own: &mut [u32], core: usize, entry: u64, j: Jumped) -> Done
+    requires { ⌜ 42 ≤ length (now own) ⌝ }
     requires { ⌜ core < 4 ⌝ }
     requires { ⌜ j .place < 42 ⌝ }
-    ensures { λ r. ⌜ Owned (now (states .entry)) core (actionEffect (now (states .entry)) core entry (Action.Jump j)) (now (states .exit)) r ⌝ }
+    ensures { λ r. ⌜ Kept (now (own .entry)) (actionEffect (now (own .entry)) core entry (Action.Jump j)) (now (own .exit)) r ⌝ }
 {
-    let x = inputs_at(states, core, entry);
-    commit_state(states, core, jumps::jumped(x, j))
+    let x = inputs_at(own, core, entry);
+    let raised = commit_state(own, jumps::jumped(x, j));
+    Done {
+        raised,
+        stored: false,
+        address: 0,
+    }
 }
 
-fn own_save(states: &mut [u32], core: usize, entry: u64, s: Store) -> u32
-    requires { ⌜ core * 42 + 42 ≤ length (now states) ⌝ }
+fn save(memory: &mut [u8], own: &mut [u32], core: usize, entry: u64, s: Store) -> Done
+    requires { ⌜ 42 ≤ length (now own) ⌝ }
     requires { ⌜ core < 4 ⌝ }
-    ensures { λ r. ⌜ Owned (now (states .entry)) core (actionEffect (now (states .entry)) core entry (Action.Save s)) (now (states .exit)) r ⌝ }
+    requires { ⌜ SoundStore (length (now memory)) s ⌝ }
+    ensures { λ r. ⌜ Performed (now (memory .entry)) (now (own .entry)) (actionEffect (now (own .entry)) core entry (Action.Save s)) (now (memory .exit)) (now (own .exit)) r ⌝ }
 {
-    let x = inputs_at(states, core, entry);
-    commit_state(states, core, accesses::saved(x, s))
+    let x = inputs_at(own, core, entry);
+    let raised = commit_state(own, accesses::saved(x, s));
+    put_store(memory, s);
+    Done {
+        raised,
+        stored: 0 < s.width,
+        address: s.address,
+    }
 }
 
-fn own_other(states: &mut [u32], core: usize, entry: u64, a: Action) -> u32
-    requires { ⌜ core * 42 + 42 ≤ length (now states) ⌝ }
+// Any action, and how many exceptions it raised. It stands by itself, so that the frequent ones do not pay for the others.
+fn other(memory: &mut [u8], own: &mut [u32], core: usize, entry: u64, action: Action) -> u32
+    requires { ⌜ 42 ≤ length (now own) ⌝ }
     requires { ⌜ core < 4 ⌝ }
-    requires { ⌜ actionEffect (now states) core entry a .place < 42 ⌝ }
-    ensures { λ r. ⌜ Owned (now (states .entry)) core (actionEffect (now (states .entry)) core entry a) (now (states .exit)) r ⌝ }
+    requires { ⌜ Sound (length (now memory)) (actionEffect (now own) core entry action) ⌝ }
+    ensures { λ r. ⌜ (now (memory .exit) ≡ memoryAfter (now (memory .entry)) (actionEffect (now (own .entry)) core entry action)) × Owned (now (own .entry)) (actionEffect (now (own .entry)) core entry action) (now (own .exit)) r ⌝ }
 {
-    let x = inputs_at(states, core, entry);
-    commit_state(states, core, action::effect_by(x, a))
+    let x = inputs_at(own, core, entry);
+    let raised = commit_state(own, action::effect_by(x, action));
+    put_store(memory, action::store_of(action));
+    raised
 }
 
-// The core's own state, as its action leaves it; answers how many exceptions were raised.
-fn commit_own(states: &mut [u32], core: usize, entry: u64, action: Action) -> u32
-    requires { ⌜ core * 42 + 42 ≤ length (now states) ⌝ }
+// An action that is likely to go on.
+pub fn commit_advance(
+    memory: &mut [u8],
+    own: &mut [u32],
+    core: usize,
+    entry: u64,
+    action: Action,
+) -> Done
+    requires { ⌜ 42 ≤ length (now own) ⌝ }
     requires { ⌜ core < 4 ⌝ }
-    requires { ⌜ actionEffect (now states) core entry action .place < 42 ⌝ }
-    ensures { λ r. ⌜ Owned (now (states .entry)) core (actionEffect (now (states .entry)) core entry action) (now (states .exit)) r ⌝ }
+    requires { ⌜ Sound (length (now memory)) (actionEffect (now own) core entry action) ⌝ }
+    ensures { λ r. ⌜ Performed (now (memory .entry)) (now (own .entry)) (actionEffect (now (own .entry)) core entry action) (now (memory .exit)) (now (own .exit)) r ⌝ }
 {
     match action {
-        Action::Advance(w) => own_advance(states, core, entry, w),
-        Action::Jump(j) => own_jump(states, core, entry, j),
-        Action::Save(s) => own_save(states, core, entry, s),
-        _ => own_other(states, core, entry, action),
+        Action::Advance(w) => advance(own, core, entry, w),
+        _ => done(other(memory, own, core, entry, action), action),
+    }
+}
+
+// An action that is likely to be a jump.
+pub fn commit_jump(
+    memory: &mut [u8],
+    own: &mut [u32],
+    core: usize,
+    entry: u64,
+    action: Action,
+) -> Done
+    requires { ⌜ 42 ≤ length (now own) ⌝ }
+    requires { ⌜ core < 4 ⌝ }
+    requires { ⌜ Sound (length (now memory)) (actionEffect (now own) core entry action) ⌝ }
+    ensures { λ r. ⌜ Performed (now (memory .entry)) (now (own .entry)) (actionEffect (now (own .entry)) core entry action) (now (memory .exit)) (now (own .exit)) r ⌝ }
+{
+    match action {
+        Action::Jump(j) => jump(own, core, entry, j),
+        _ => done(other(memory, own, core, entry, action), action),
+    }
+}
+
+// An action that is likely to store.
+pub fn commit_save(
+    memory: &mut [u8],
+    own: &mut [u32],
+    core: usize,
+    entry: u64,
+    action: Action,
+) -> Done
+    requires { ⌜ 42 ≤ length (now own) ⌝ }
+    requires { ⌜ core < 4 ⌝ }
+    requires { ⌜ Sound (length (now memory)) (actionEffect (now own) core entry action) ⌝ }
+    ensures { λ r. ⌜ Performed (now (memory .entry)) (now (own .entry)) (actionEffect (now (own .entry)) core entry action) (now (memory .exit)) (now (own .exit)) r ⌝ }
+{
+    match action {
+        Action::Save(s) => save(memory, own, core, entry, s),
+        _ => done(other(memory, own, core, entry, action), action),
     }
 }
 
@@ -150,55 +234,23 @@ fn clear_link(states: &mut [u32], core: usize, w: u32)
     requires { ⌜ core * 42 + 42 ≤ length (now states) ⌝ }
     ensures { λ _. ⌜ now (states .exit) ≡ clearLink (now (states .entry)) core w ⌝ }
 {
-    let base = core * STATE_WORDS;
-    if states[base + 39] == 1 {
-        if states[base + 40] == w {
-            states[base + 39] = 0;
-            states[base + 40] = 0;
+    let base = core * state::STATE_WORDS;
+    if states[base + state::LINK] == 1 {
+        if states[base + state::LINK_ADDRESS] == w {
+            states[base + state::LINK] = 0;
+            states[base + state::LINK_ADDRESS] = 0;
         }
     }
 }
 
 // Every core's link to the word at w.
-fn clear_links(states: &mut [u32], w: u32)
+pub fn clear_links(states: &mut [u32], w: u32)
     ensures { λ _. ⌜ now (states .exit) ≡ clearLinks (coreCount (now (states .entry))) (now (states .entry)) w ⌝ }
 {
-    let n = states.len() / STATE_WORDS;
+    let n = states.len() / state::STATE_WORDS;
     let mut i = 0;
     while i < n {
         clear_link(states, i, w);
         i += 1;
-    }
-}
-
-// Commits the action of an entry: its core's own state, memory, and every core's link to the word that is stored into.
-pub fn commit(
-    memory: &mut [u8],
-    states: &mut [u32],
-    core: usize,
-    entry: u64,
-    action: Action,
-) -> Done
-    requires { ⌜ core * 42 + 42 ≤ length (now states) ⌝ }
-    requires { ⌜ core < 4 ⌝ }
-    requires { ⌜ Sound (length (now memory)) (actionEffect (now states) core entry action) ⌝ }
-    ensures { λ r. ⌜ Executed (now (memory .entry)) (now (states .entry)) core (actionEffect (now (states .entry)) core entry action) (now (memory .exit)) (now (states .exit)) r ⌝ }
-{
-    let raised = commit_own(states, core, entry, action);
-    let store = action::store_of(action);
-    let address = store.address;
-    if 0 < store.width {
-        memory::store(memory, address, store.width, store.value);
-        clear_links(states, address / 4 * 4);
-        return Done {
-            raised,
-            stored: true,
-            word: address / 4,
-        };
-    }
-    Done {
-        raised,
-        stored: false,
-        word: address / 4,
     }
 }

@@ -1,10 +1,11 @@
-// An instruction on what is lent: its inputs are read, and its action is committed.
+// An instruction on what is lent: its inputs are read, and what it does is committed.
 ghost use mathlib.Core.Path.{_≡_};
 ghost use Prim.Native.Nat.{_+_, _*_, _≤_, _<_};
 ghost use lib.ListN.{length};
-ghost use Rattle.isa.specs.Parts.{Registers, fieldsOf};
+ghost use Rattle.isa.specs.Parts.{Registers};
 ghost use Rattle.semantics.specs.Commit.{inputs, effectOf, fetchFault, noFields};
-ghost use Rattle.exec.specs.Report.{Executed};
+ghost use Rattle.exec.specs.Report.{ownInputs, entryInputs, Executed};
+use effect::state;
 use effect::types::Board;
 use effect::types::Faulted;
 use effect::types::Flow;
@@ -13,87 +14,63 @@ use effect::types::Link;
 use isa::entry::Fields;
 use isa::vectors::Cause;
 
-pub mod action;
 pub mod commit;
+pub mod perform;
 
-// The words of a core's state.
-pub const STATE_WORDS: usize = 42;
-
-// What a commit tells the run: exceptions raised, and whether and into which word of memory it stored.
+// What an instruction tells the run: exceptions raised, and whether and where it stored.
 pub struct Done {
     pub raised: u32,
     pub stored: bool,
-    pub word: u32,
+    pub address: u32,
 }
 
-// What an instruction with the fields f reads of its core's state.
-pub fn inputs_of(states: &[u32], core: usize, f: Fields) -> Inputs
-    requires { ⌜ core * 42 + 42 ≤ length (now states) ⌝ }
+// What an instruction with the fields f reads of its core's own state.
+fn inputs_of(own: &[u32], core: usize, f: Fields) -> Inputs
+    requires { ⌜ 42 ≤ length (now own) ⌝ }
     requires { ⌜ Registers f ⌝ }
     requires { ⌜ core < 4 ⌝ }
-    ensures { λ r. ⌜ r ≡ inputs (now (states .entry)) core f ⌝ }
+    ensures { λ r. ⌜ r ≡ ownInputs (now (own .entry)) core f ⌝ }
 {
-    let base = core * STATE_WORDS;
     Inputs {
         core: core as u32,
         d: f.d as u32,
-        a: states[base + f.a as usize],
-        b: states[base + f.b as usize],
+        a: own[f.a as usize],
+        b: own[f.b as usize],
         immediate: f.immediate,
         flow: Flow {
-            pc: states[base + 32],
-            delay: states[base + 33],
-            target: states[base + 34],
+            pc: own[state::PC],
+            delay: own[state::DELAY],
+            target: own[state::TARGET],
         },
-        sr: states[base + 35],
-        epcr: states[base + 36],
-        eear: states[base + 37],
-        esr: states[base + 38],
+        sr: own[state::SR],
+        epcr: own[state::EPCR],
+        eear: own[state::EEAR],
+        esr: own[state::ESR],
         link: Link {
-            held: states[base + 39],
-            address: states[base + 40],
+            held: own[state::LINK],
+            address: own[state::LINK_ADDRESS],
         },
     }
 }
 
-// What the instruction of an entry reads of its core's state.
-pub fn inputs_at(states: &[u32], core: usize, entry: u64) -> Inputs
-    requires { ⌜ core * 42 + 42 ≤ length (now states) ⌝ }
+// The same for the instruction of an entry.
+pub fn inputs_at(own: &[u32], core: usize, entry: u64) -> Inputs
+    requires { ⌜ 42 ≤ length (now own) ⌝ }
     requires { ⌜ core < 4 ⌝ }
-    ensures { λ r. ⌜ r ≡ inputs (now (states .entry)) core (fieldsOf entry) ⌝ }
+    ensures { λ r. ⌜ r ≡ entryInputs (now (own .entry)) core entry ⌝ }
 {
-    inputs_of(states, core, isa::entry::unpack(entry))
+    inputs_of(own, core, isa::entry::unpack(entry))
 }
 
-// Executes an entry as it stands, whatever word memory holds.
-pub fn execute(board: Board, memory: &mut [u8], states: &mut [u32], core: usize, entry: u64) -> Done
+// What a core's state says by itself: the inputs of an instruction that has no fields.
+fn state_at(states: &[u32], core: usize) -> Inputs
     requires { ⌜ core * 42 + 42 ≤ length (now states) ⌝ }
     requires { ⌜ core < 4 ⌝ }
-    ensures { λ r. ⌜ Executed (now (memory .entry)) (now (states .entry)) core (effectOf board (now (memory .entry)) (now (states .entry)) core entry) (now (memory .exit)) (now (states .exit)) r ⌝ }
+    ensures { λ r. ⌜ r ≡ inputs (now (states .entry)) core noFields ⌝ }
 {
-    let kind = (entry / 0x100_0000_0000_0000) as u8;
-    let action = action::action_of(board, memory, states, core, kind, entry);
-    commit::commit(memory, states, core, entry, action)
-}
-
-// A fetch outside memory raises bus error.
-pub fn fetch_fault(memory: &mut [u8], states: &mut [u32], core: usize) -> Done
-    requires { ⌜ core * 42 + 42 ≤ length (now states) ⌝ }
-    requires { ⌜ core < 4 ⌝ }
-    ensures { λ r. ⌜ Executed (now (memory .entry)) (now (states .entry)) core (fetchFault (now (states .entry)) core) (now (memory .exit)) (now (states .exit)) r ⌝ }
-{
-    let x = inputs_of(states, core, no_fields());
-    let fault = Faulted {
-        cause: Cause::Bus,
-        eear: x.flow.pc,
-    };
-    let e = effect::raised::faulted(x, fault);
-    let raised = commit::commit_state(states, core, e);
-    Done {
-        raised,
-        stored: false,
-        word: 0,
-    }
+    let base = core * state::STATE_WORDS;
+    let end = base + state::STATE_WORDS;
+    inputs_of(&states[base..end], core, no_fields())
 }
 
 fn no_fields() -> Fields
@@ -104,5 +81,42 @@ fn no_fields() -> Fields
         a: 0,
         b: 0,
         immediate: 0,
+    }
+}
+
+// Executes an entry as it stands, whatever word memory holds. A part of the states, so that the core's own words are at fixed places.
+pub fn execute(board: Board, memory: &mut [u8], states: &mut [u32], core: usize, entry: u64) -> Done
+    requires { ⌜ core * 42 + 42 ≤ length (now states) ⌝ }
+    requires { ⌜ core < 4 ⌝ }
+    ensures { λ r. ⌜ Executed (now (memory .entry)) (now (states .entry)) core (effectOf board (now (memory .entry)) (now (states .entry)) core entry) (now (memory .exit)) (now (states .exit)) r ⌝ }
+{
+    let base = core * state::STATE_WORDS;
+    let end = base + state::STATE_WORDS;
+    let kind = (entry / 0x100_0000_0000_0000) as u8;
+    let done = perform::perform(board, memory, &mut states[base..end], core, kind, entry);
+    if done.stored {
+        commit::clear_links(states, done.address / 4 * 4);
+    }
+    done
+}
+
+// A fetch outside memory raises bus error.
+pub fn fetch_fault(memory: &mut [u8], states: &mut [u32], core: usize) -> Done
+    requires { ⌜ core * 42 + 42 ≤ length (now states) ⌝ }
+    requires { ⌜ core < 4 ⌝ }
+    ensures { λ r. ⌜ Executed (now (memory .entry)) (now (states .entry)) core (fetchFault (now (states .entry)) core) (now (memory .exit)) (now (states .exit)) r ⌝ }
+{
+    let x = state_at(states, core);
+    let fault = Faulted {
+        cause: Cause::Bus,
+        eear: x.flow.pc,
+    };
+    let base = core * state::STATE_WORDS;
+    let end = base + state::STATE_WORDS;
+    let raised = commit::commit_state(&mut states[base..end], effect::raised::faulted(x, fault));
+    Done {
+        raised,
+        stored: false,
+        address: 0,
     }
 }

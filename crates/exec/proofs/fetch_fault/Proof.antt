@@ -1,29 +1,47 @@
-use mathlib.Core.Path.{_≡_, sym, ap, subst, _∙_}
+use mathlib.Core.Path.{refl, ap, _∙_}
+use Prim.Native.Nat.{_+_, _-_, _*_}
 use native.Mathlib.Omega.{arith}
 use denote.Ref.{now}
 use Rattle.isa.specs.declared.vectors.Cause.the-variants.{Bus}
-use Rattle.effect.specs.Effect.{raises, faults}
 use Rattle.effect.specs.declared.types.Inputs.{Inputs}
-use Rattle.effect.specs.declared.types.Effect.{Effect}
-use Rattle.semantics.specs.Commit.{inputs}
-use Rattle.exec.proofs.Actions.{placed-as}
-use Rattle.exec.proofs.Commits.{executed-as, committed}
+use Rattle.effect.specs.Effect.{raises, faults}
+use Rattle.semantics.specs.Commit.{inputs, fetchFault}
+use Rattle.exec.proofs.Own.{mid-words, mid-committed}
+use Rattle.exec.proofs.Own.{mid-committed}
+use Rattle.exec.proofs.Commits.{placed-as, owned-as, kept, executed-kept}
 use borrow.Author.Needs.{needs}
 use Rattle.exec.proofs.fetch_fault.Statement.{statement}
 use Rattle.exec.proofs.fetch_fault.Tie as tie
 
-no-fields-requires : tie.Need-no-fields-requires
-no-fields-requires c κs = search needs
+state-at-requires : tie.Need-state-at-requires
+state-at-requires c κs = search needs
 
-inputs-of-requires : tie.Need-inputs-of-requires
-inputs-of-requires c κs = search needs
+mul-base : tie.Need-mul-base
+mul-base c = search needs
+
+add-end : tie.Need-add-end
+add-end c = search needs
+
+mul-commit-state : tie.Need-mul-commit-state
+mul-commit-state c = search needs
+
+sub-commit-state : tie.Need-sub-commit-state
+sub-commit-state c = search needs
+
+part-commit-state-start : tie.Need-part-commit-state-start
+part-commit-state-start c = search needs
+
+part-commit-state-end : tie.Need-part-commit-state-end
+part-commit-state-end c = search needs
 
 faulted-requires : tie.Need-faulted-requires
 faulted-requires c κs = search needs
 
 commit-state-requires : tie.Need-commit-state-requires
 unfolding raises
-commit-state-requires c κs = (c .before .before .before .before .before .before .before .pre .0, placed-as (c .before .faulted .ensures) (omega arith))
+commit-state-requires c κs =
+    let a = c .before .before .before .before .before .before .args in
+    (mid-words (now (a .states)) (a .core) (c .before .before .before .before .before .before .pre .0) (a .core * 42 + 42 - a .core * 42) (omega arith), placed-as (c .faulted .ensures) (omega arith))
 
 same-length : tie.Need-same-length
 same-length c = search needs
@@ -31,13 +49,26 @@ same-length c = search needs
 returns : tie.Need-returns
 unfolding inputs raises
 returns c =
-    let a = c .before .before .before .before .before .before .before .before .before .before .args in
-    let fault = c .before .before .before .before .faulted in
-    let own = c .before .before .commit-state .ensures in
-    let x = c .before .before .before .before .before .inputs-of .ensures ∙ ap (inputs (now (a .states)) (a .core)) (c .before .before .before .before .before .before .no-fields .ensures .0) in
-    executed-as (fault .ensures ∙ ap (λ (x : Inputs). faults x Bus (x .flow .pc)) x)
-    (committed (own .0) (own .1) (sym (ap (λ (e : Effect). e .store) (fault .ensures))) (omega arith))
+    let a = c .before .before .before .before .before .before .before .before .before .args in
+    let s = now (a .states) in
+    let x = c .before .before .before .before .before .state-at .ensures in
+    let n = a .core * 42 + 42 - a .core * 42 in
+    let e = c .before .before .before .faulted .ensures ∙ ap (λ (x : Inputs). faults x Bus (x .flow .pc)) x in
+    let o = owned-as e (c .before .before .commit-state .ensures) in
+    executed-kept s (a .core) (kept o refl (now (a .memory))) (mid-committed s (a .core) (c .before .before .before .before .before .before .before .before .before .pre .0) n (omega arith) (fetchFault s (a .core)) (omega arith) (o .left)) refl
 
 pub fetch-fault-spec : {M : Type 1} → statement M
 fetch-fault-spec =
-    tie.close (tie.spec no-fields-requires inputs-of-requires faulted-requires commit-state-requires same-length returns)
+    tie.close
+    (tie.spec
+    state-at-requires
+    mul-base
+    add-end
+    mul-commit-state
+    sub-commit-state
+    part-commit-state-start
+    part-commit-state-end
+    faulted-requires
+    commit-state-requires
+    same-length
+    returns)

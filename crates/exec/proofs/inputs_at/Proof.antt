@@ -1,6 +1,10 @@
 use mathlib.Core.Path.{ap, _∙_}
 use denote.Ref.{now}
-use Rattle.semantics.specs.Commit.{inputs}
+use Rattle.isa.proofs.entry.unpack.Reads as unpack-reads
+use Rattle.exec.specs.Report.{ownInputs}
+use Rattle.exec.proofs.inputs_at.Reads as reads
+use Rattle.exec.proofs.inputs_at.Lts as lts
+use Rattle.exec.proofs.inputs_of.Reads as inputs-of-reads
 use borrow.Author.Needs.{needs}
 use Rattle.exec.proofs.inputs_at.Statement.{statement}
 use Rattle.exec.proofs.inputs_at.Tie as tie
@@ -14,7 +18,7 @@ inputs-of-requires c κs = search needs
 returns : tie.Need-returns
 returns c =
     let a = c .before .before .before .args in
-    c .inputs-of .ensures ∙ ap (inputs (now (a .states)) (a .core)) (c .before .unpack .ensures .0)
+    c .inputs-of .ensures ∙ ap (ownInputs (now (a .own)) (a .core)) (c .before .unpack .ensures .0)
 
 pub inputs-at-spec : {M : Type 1} → statement M
 inputs-at-spec = tie.close (tie.spec unpack-requires inputs-of-requires returns)

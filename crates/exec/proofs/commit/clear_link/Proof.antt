@@ -1,6 +1,6 @@
-use borrow.Author.Tests.{eq-eqb, ne-eqb}
 use native.Mathlib.Omega.{arith}
 use lib.ListN.{length-set}
+use borrow.Author.Tests.{eq-eqb, ne-eqb}
 use Rattle.semantics.specs.Commit.{clearLink}
 use borrow.Author.Needs.{needs}
 use Rattle.exec.proofs.commit.clear_link.Statement.{statement}

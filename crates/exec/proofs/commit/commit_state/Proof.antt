@@ -1,8 +1,13 @@
+use mathlib.Core.Path.{ap, _∙_}
 use mathlib.Core.List.{List}
 use Prim.Native.Nat.{ℕ}
-use denote.Ref.{now}
-use mathlib.Core.Path.{_≡_, sym, ap, subst, _∙_}
 use Rattle.semantics.specs.Commit.{putFlow, putStatus, putException, ownState}
+use Rattle.exec.proofs.commit.commit_state.Reads as reads
+use Rattle.exec.proofs.commit.commit_state.Lts as lts
+use Rattle.exec.proofs.commit.put_flow.Reads as put-flow-reads
+use Rattle.exec.proofs.commit.put_outcome.Reads as put-outcome-reads
+use Rattle.exec.proofs.commit.put_status.Reads as put-status-reads
+use Rattle.exec.proofs.commit.put_value.Reads as put-value-reads
 use borrow.Author.Needs.{needs}
 use Rattle.exec.proofs.commit.commit_state.Statement.{statement}
 use Rattle.exec.proofs.commit.commit_state.Tie as tie
@@ -16,16 +21,34 @@ put-flow-requires c κs = search needs
 put-status-requires : tie.Need-put-status-requires
 put-status-requires c κs = search needs
 
-put-exception-requires : tie.Need-put-exception-requires
-put-exception-requires c κs = search needs
+put-outcome-requires : tie.Need-put-outcome-requires
+put-outcome-requires c κs = search needs
 
 same-length : tie.Need-same-length
 same-length c = search needs
 
 returns : tie.Need-returns
 unfolding ownState
-returns c = let a = c .before .before .before .before .before .before .before .before .before .before .before .before .before .before .before .before .before .args in
-    (c .before .before .put-exception .ensures .0 ∙ ap (λ (s : List ℕ). putException (a .e .outcome) s (a .core)) (c .before .before .before .before .before .before .put-status .ensures ∙ ap (λ (s : List ℕ). putStatus s (a .core) (a .e)) (c .before .before .before .before .before .before .before .before .before .before .put-flow .ensures ∙ ap (λ (s : List ℕ). putFlow s (a .core) (a .e)) (c .before .before .before .before .before .before .before .before .before .before .before .before .before .before .put-value .ensures))), c .before .before .put-exception .ensures .1)
+returns c =
+    let e = c .before .before .before .before .before .before .before .before .before .before .before .before .before .before .before .before .before .args .e in
+    let value = c .before .before .before .before .before .before .before .before .before .before .before .before .before .before .put-value .ensures in
+    let flow = c .before .before .before .before .before .before .before .before .before .before .put-flow .ensures in
+    let status = c .before .before .before .before .before .before .put-status .ensures in
+    let outcome = c .before .before .put-outcome .ensures in
+    record {
+      left =
+          outcome .0 ∙ ap (λ (s : List ℕ). putException (e .outcome) s 0)
+          (status ∙ ap (λ (s : List ℕ). putStatus s 0 e) (flow ∙ ap (λ (s : List ℕ). putFlow s 0 e) value));
+      raised = outcome .1;
+    }
 
 pub commit-state-spec : {M : Type 1} → statement M
-commit-state-spec = tie.close (tie.spec put-value-requires put-flow-requires put-status-requires put-exception-requires same-length returns)
+commit-state-spec =
+    tie.close
+    (tie.spec
+    put-value-requires
+    put-flow-requires
+    put-status-requires
+    put-outcome-requires
+    same-length
+    returns)

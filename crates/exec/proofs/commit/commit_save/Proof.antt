@@ -1,0 +1,71 @@
+use mathlib.Core.Path.{sym, ap, subst}
+use denote.Ref.{now}
+use lib.ListN.{length}
+use Rattle.effect.specs.declared.types.Action.{Action}
+use Rattle.effect.specs.Action.{effectBy}
+use Rattle.lawful.specs.Sound.{SoundStore}
+use Rattle.exec.specs.Report.{actionEffect}
+use Rattle.exec.proofs.Commits.{performed-as, performed}
+use Rattle.exec.proofs.commit.commit_save.Reads as reads
+use Rattle.exec.proofs.commit.commit_save.Lts as lts
+use Rattle.exec.proofs.commit.done.Reads as done-reads
+use Rattle.exec.proofs.commit.other.Reads as other-reads
+use Rattle.exec.proofs.commit.save.Reads as save-reads
+use borrow.Author.Needs.{needs}
+use Rattle.exec.proofs.commit.commit_save.Statement.{statement}
+use Rattle.exec.proofs.commit.commit_save.Tie as tie
+
+enum-known-action : tie.Need-enum-known-action
+enum-known-action c = search needs
+
+save-requires : tie.Need-save-requires
+unfolding effectBy
+save-requires c κs =
+    let a = c .before .before .before .before .before .before .before .args in
+    let p = c .before .before .before .before .before .before .before .pre in
+    let told = c .before .before .before .action .given .1 in
+    (p .0, (p .1 .0, subst (λ (b : Action). SoundStore (length (now (a .memory))) (actionEffect (now (a .own)) (a .core) (a .entry) b .store)) told (p .1 .1 .sound-store)))
+
+other-requires : tie.Need-other-requires
+other-requires c κs = search needs
+
+done-requires : tie.Need-done-requires
+done-requires c κs = search needs
+
+same-length : tie.Need-same-length
+same-length c = search needs
+
+same-length-2 : tie.Need-same-length-2
+same-length-2 c = search needs
+
+returns : tie.Need-returns
+returns c =
+    let a = c .before .before .before .before .before .before .before .before .before .before .before .before .args in
+    let told = c .before .before .before .before .before .before .before .before .action .given .1 in
+    performed-as (ap (actionEffect (now (a .own)) (a .core) (a .entry)) (sym told)) (c .before .before .before .before .save .ensures)
+
+same-length-3 : tie.Need-same-length-3
+same-length-3 c = search needs
+
+same-length-4 : tie.Need-same-length-4
+same-length-4 c = search needs
+
+returns-2 : tie.Need-returns-2
+returns-2 c =
+    let o = c .before .before .before .before .before .other .ensures in
+    performed (o .1) (o .0) (c .done .ensures _)
+
+pub commit-save-spec : {M : Type 1} → statement M
+commit-save-spec =
+    tie.close
+    (tie.spec
+    enum-known-action
+    save-requires
+    other-requires
+    done-requires
+    same-length
+    same-length-2
+    returns
+    same-length-3
+    same-length-4
+    returns-2)

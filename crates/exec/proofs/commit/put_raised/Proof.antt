@@ -1,0 +1,29 @@
+use mathlib.Core.Path.{refl}
+use native.Mathlib.Omega.{arith}
+use lib.ListN.{length-set}
+use Rattle.semantics.specs.Commit.{putException}
+use Rattle.exec.proofs.commit.put_raised.Reads as reads
+use Rattle.exec.proofs.commit.put_raised.Lts as lts
+use borrow.Author.Needs.{needs}
+use Rattle.exec.proofs.commit.put_raised.Statement.{statement}
+use Rattle.exec.proofs.commit.put_raised.Tie as tie
+
+slice-write-own : tie.Need-slice-write-own
+slice-write-own c = search needs
+
+slice-write-own-2 : tie.Need-slice-write-own-2
+slice-write-own-2 c = simp length-set (omega arith)
+
+slice-write-own-3 : tie.Need-slice-write-own-3
+slice-write-own-3 c = simp length-set (omega arith)
+
+same-length : tie.Need-same-length
+same-length c = search needs
+
+returns : tie.Need-returns
+unfolding putException
+returns c = refl
+
+pub put-raised-spec : {M : Type 1} → statement M
+put-raised-spec =
+    tie.close (tie.spec slice-write-own slice-write-own-2 slice-write-own-3 same-length returns)

@@ -1,0 +1,23 @@
+use denote.Ref.{now}
+use Rattle.memory.proofs.store.Reads as store-reads
+use Rattle.exec.proofs.Commits.{storable, not-stored}
+use Rattle.exec.proofs.commit.put_store.Reads as reads
+use Rattle.exec.proofs.commit.put_store.Lts as lts
+use borrow.Author.Needs.{needs}
+use Rattle.exec.proofs.commit.put_store.Statement.{statement}
+use Rattle.exec.proofs.commit.put_store.Tie as tie
+
+store-requires : tie.Need-store-requires
+store-requires c κs = storable (c .before .before .before .before .pre) (c .before .if1 .taken)
+
+same-length : tie.Need-same-length
+same-length c = search needs
+
+returns : tie.Need-returns
+returns c = search needs
+
+returns-2 : tie.Need-returns-2
+returns-2 c = let a = c .before .before .before .args in not-stored (a .s .width) (now (a .memory)) (a .s .address) (a .s .value) (c .if1 .left)
+
+pub put-store-spec : {M : Type 1} → statement M
+put-store-spec = tie.close (tie.spec store-requires same-length returns returns-2)
