@@ -38,6 +38,11 @@ form-filled : (mem : List ℕ) (k : ℕ) → formAt mem k ≡ 0 → ⊥
 unfolding formAt
 form-filled mem k h = decode-filled (memoryWord mem k) h
 
+-- nor is what a fetch inside memory finds
+pub form-found : (mem c : List ℕ) (k : ℕ) → cachedForm mem c k ≡ 0 → ⊥
+form-found mem c k h =
+    by-equality (getD c k 0) 0 (λ q. form-filled mem k (rw (eq-eqb _ _ q) at h)) (λ q. q (rw (ne-eqb _ _ q) at h))
+
 -- ---- what is cached
 
 pub cached-set : (c : List ℕ) (k entry : ℕ) → cachedAtFirst (set c k entry) ≡ set (cachedAtFirst c) k (filled entry)
@@ -67,7 +72,7 @@ cached-emptied e c = go (stores e)
 
 -- ---- every filled entry stays its word's form
 
-filled-inside : (c : List ℕ) (k : ℕ) → (getD c k 0 ≡ 0 → ⊥) → k < length c
+pub filled-inside : (c : List ℕ) (k : ℕ) → (getD c k 0 ≡ 0 → ⊥) → k < length c
 filled-inside [] k n = absurd (n refl)
 filled-inside (x ∷ c) zero n = omega arith
 filled-inside (x ∷ c) (suc k) n = let h : k < length c = filled-inside c k n in omega arith

@@ -1,14 +1,14 @@
 -- One schedule entry, case by case, as its code goes. Assumes nothing.
 use mathlib.Core.Bool.{Bool, true, false}
 use mathlib.Core.List.{List}
-use mathlib.Core.Path.{_≡_, sym, _∙_}
-use Prim.Native.Nat.{ℕ, _+_, _<_, _≤_, zero-le}
+use mathlib.Core.Path.{_≡_, refl, sym, ap, _∙_}
+use Prim.Native.Nat.{ℕ, _+_, _/_, _%_, _<_, _≤_, zero-le}
 use native.Mathlib.Nat.{le-refl}
 use native.Mathlib.Omega.{arith}
-use lib.Dec.{eqb}
+use lib.Dec.{eqb, leb}
 use lib.ListN.{length, getD, set}
 use lib.Seq.{set-getD}
-use borrow.Author.Tests.{eq-eqb, ne-eqb, le-leb, lt-leb}
+use borrow.Author.Tests.{eq-eqb, ne-eqb, le-leb, lt-leb, leb-true, leb-false}
 use Rattle.bits.specs.Choice.{if_then_else_}
 use Rattle.isa.specs.InstructionSet.{decode}
 use Rattle.memory.specs.Memory.{memoryWord}
@@ -17,14 +17,16 @@ use Rattle.effect.specs.declared.types.Board.{Board}
 use Rattle.effect.specs.declared.types.Effect.{Effect}
 use Rattle.effect.specs.declared.types.Outcome.{Outcome}
 use Rattle.effect.specs.declared.types.Outcome.the-variants.{Completed, Raised}
-use Rattle.semantics.specs.Commit.{wordAt, effectOf, fetchFault}
-use Rattle.exec.specs.Report.{raisedBy, Executed}
+use Rattle.semantics.specs.Commit.{wordAt, effectOf, fetchFault, raisedBy}
+use Rattle.exec.specs.Report.{Executed}
 use Rattle.exec.specs.declared.Done.{Done}
 use Rattle.engine.specs.Plain.{fetched, formAt, plainAfter}
 use Rattle.engine.specs.Fast.{filled, cachedForm, emptied, fastFetch, fastFault, fastStep}
 use Rattle.engine.specs.Answer.{AtMost}
-use Rattle.engine.specs.Invariant.{fastOf, countsAfter, Grown, fetchedOf}
+use Rattle.engine.specs.Invariant.{fastOf, countsAfter, Grown, Backed, fetchedOf, fetchAt, cacheAfter}
 use Rattle.engine.specs.declared.answer.Counts.{Counts}
+use Rattle.engine.specs.declared.steps.Fetched.{Fetched}
+use Rattle.engine.proofs.Agree.{filled-inside, form-found}
 
 -- ---- counts
 
@@ -73,6 +75,44 @@ module _ (mem c : List ℕ) (k : ℕ) {old : ℕ} (q : old ≡ getD c k 0) where
     unfolding formAt
     empty-fetched = rw (empty-there, e)
 
+-- a fetch at pc: inside memory, or outside
+module _ (mem c : List ℕ) (pc : ℕ) where
+  pub at-inside : pc + 4 ≤ length mem → {f : Fetched} {c′ : List ℕ} → f ≡ fetchedOf mem c (pc / 4)
+      → c′ ≡ set c (pc / 4) (cachedForm mem c (pc / 4)) → (f ≡ fetchAt mem c pc) × (c′ ≡ cacheAfter mem c pc)
+  at-inside h p q = (rw (le-leb _ _ h) p, rw (le-leb _ _ h) q)
+
+  pub at-outside : length mem < pc + 4 → (record { entry = 0; reused = 0 } ≡ fetchAt mem c pc) × (c ≡ cacheAfter mem c pc)
+  at-outside h = (rw (lt-leb _ _ h), rw (lt-leb _ _ h))
+
+  -- a filled entry is that of a word inside
+  pub filled-is-inside : Backed c mem → pc % 4 ≡ 0 → (getD c (pc / 4) 0 ≡ 0 → ⊥) → pc + 4 ≤ length mem
+  filled-is-inside b m n = let k : pc / 4 < length c = filled-inside c (pc / 4) n in omega (arith, b, m, k)
+
+  module _ {f : Fetched} {c′ : List ℕ} (p : f ≡ fetchAt mem c pc) (q : c′ ≡ cacheAfter mem c pc) where
+    -- what was found tells whether the word is inside
+    pub record Inside : Type 0 where
+      pub inside : pc + 4 ≤ length mem
+      pub found : f ≡ fetchedOf mem c (pc / 4)
+      pub cache : c′ ≡ set c (pc / 4) (cachedForm mem c (pc / 4))
+
+    pub found-inside : (f .entry ≡ 0 → ⊥) → Inside
+    found-inside n = go (leb (pc + 4) (length mem)) refl
+      where
+        go : (b : Bool) → leb (pc + 4) (length mem) ≡ b → Inside
+        go true e = record { inside = leb-true _ _ e; found = p ∙ rw e; cache = q ∙ rw e }
+        go false e = let z : f ≡ record { entry = 0; reused = 0 } = p ∙ rw e in absurd (n (ap (λ (g : Fetched). g .entry) z))
+
+    pub record Outside : Type 0 where
+      pub outside : length mem < pc + 4
+      pub cache : c′ ≡ c
+
+    pub found-outside : f .entry ≡ 0 → Outside
+    found-outside n = go (leb (pc + 4) (length mem)) refl
+      where
+        go : (b : Bool) → leb (pc + 4) (length mem) ≡ b → Outside
+        go true e = let z : f ≡ fetchedOf mem c (pc / 4) = p ∙ rw e in absurd (form-found mem c (pc / 4) (sym (ap (λ (g : Fetched). g .entry) z) ∙ n))
+        go false e = record { outside = leb-false _ _ e; cache = q ∙ rw e }
+
 -- ---- an entry
 
 module _ (board : Board) (mem s c : List ℕ) (core : ℕ) (n : Counts) where
@@ -92,7 +132,7 @@ module _ (board : Board) (mem s c : List ℕ) (core : ℕ) (n : Counts) where
   pub fast-inside : {k : ℕ} (c′ : List ℕ) {mem′ s′ c″ : List ℕ} {r : Done} {n′ : Counts} → k ≡ fetched s core
       → wordAt s core modeAt ≡ running → wordAt s core pcAt + 4 ≤ length mem
       → c′ ≡ set c k (cachedForm mem c k) → Executed mem s core (effectOf board mem s core (cachedForm mem c k)) mem′ s′ r
-      → c″ ≡ (if r .stored then set c′ (r .word) 0 else c′) → n′ ≡ countsAfter n (r .raised) (filled (getD c k 0))
+      → c″ ≡ (if r .stored then set c′ (r .address / 4) 0 else c′) → n′ ≡ countsAfter n (r .raised) (filled (getD c k 0))
       → fastOf mem′ s′ c″ n′ ≡ fastStep board (fastOf mem s c n) core
   unfolding fastStep fastFetch plainAfter emptied
   fast-inside c′ w h g p x t q = rw (eq-eqb _ _ h, le-leb _ _ g, t, p, q, x .memory, x .states, x .done, w)

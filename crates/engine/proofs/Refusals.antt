@@ -7,7 +7,7 @@ use native.Mathlib.Omega.{arith}
 use lib.Dec.{T, eqb, leb, ltb, eqb→eq, leb→le, ltb→lt}
 use lib.ListN.{length, getD}
 use borrow.Author.Tests.{eq-eqb, ne-eqb}
-use Rattle.bits.proofs.Tests.{and-right}
+use Rattle.bits.proofs.Tests.{and-right, T-of, Each}
 use Rattle.semantics.specs.Commit.{coreCount}
 use Rattle.lawful.specs.Accepted.{accepted, AllAccepted}
 use Rattle.lawful.proofs.Accepted.{accepted-means, means-accepted}
@@ -17,12 +17,12 @@ use Rattle.engine.specs.Fast.{Fast, fastFrom}
 use Rattle.engine.specs.History.{History, history, entriesFrom}
 use Rattle.engine.specs.Refusal.{statesFit, statesObey, scheduleFits, namesCores, cacheFits, entryRight, entriesRight, cacheRules, rulesThen, firstBroken, plainRefusal, fastRefusal, refusalNumber, everyFrom}
 use Rattle.engine.specs.Answer.{AtMost, noCounts, cacheLeft, PlainAnswer, FastAnswer}
-use Rattle.engine.specs.Invariant.{fastOf, Runnable, Right}
+use Rattle.engine.specs.Invariant.{fastOf, Runnable, Right, Backed}
 use Rattle.engine.specs.declared.answer.Counts.{Counts}
 use Rattle.engine.specs.declared.answer.Refusal.{Refusal}
 use Rattle.engine.specs.declared.answer.Refusal.the-variants.{MemoryLength, StatesLength, StateRule, ScheduleLength, NoSuchCore, CacheLength, CacheEntry}
 use Rattle.engine.specs.declared.answer.Answer.the-variants.{Ran, Refused}
-use Rattle.engine.proofs.Tests.{T-of, below-at, of-below, from-at, of-from, Each, each-passes, none-broken, broken-before, broken-after}
+use Rattle.engine.proofs.Tests.{below-at, of-below, from-at, of-from, each-passes, none-broken, broken-before, broken-after}
 use Rattle.engine.proofs.Agree.{Agrees}
 use Rattle.engine.proofs.Schedule.{from-agrees, from-uncached, from-accepted, cache-is}
 
@@ -67,17 +67,22 @@ unfolding statesObey
 accepted-obeys s a = of-below (accepted s) (coreCount s) (λ core h. means-accepted s core (a core h))
 
 module _ (mem s schedule : List ℕ) (more : List Bool) (t : Each (rulesThen mem s schedule more)) where
-  each-runnable : Runnable s schedule
+  each-runnable : (cache : List ℕ) → Backed cache mem → Right cache mem → Runnable mem s schedule cache
   unfolding scheduleFits namesCores
-  each-runnable = record {
+  each-runnable cache b r = record {
     few-cores = fits-cores (length s) (t .1 .0);
     few-entries = leb→le (length schedule) 65536 (t .1 .1 .1 .0);
     names-cores = λ i h. ltb→lt _ _ (from-at (λ i core. ltb core (coreCount s)) schedule 0 (t .1 .1 .1 .1 .0) i h);
+    accepted = obeys-accepted s (t .1 .1 .0);
+    backed = b;
+    right = r;
   }
 
-pub plain-runnable : (mem s schedule : List ℕ) → plainRefusal mem s schedule ≡ 0 → Runnable s schedule
+-- an empty cache has no entry that could be wrong
+pub plain-runnable : (mem s schedule : List ℕ) → plainRefusal mem s schedule ≡ 0 → Runnable mem s schedule []
 unfolding plainRefusal
-plain-runnable mem s schedule z = each-runnable mem s schedule [] (each-passes 1 (rulesThen mem s schedule []) (omega arith) z)
+plain-runnable mem s schedule z =
+    each-runnable mem s schedule [] (each-passes 1 (rulesThen mem s schedule []) (omega arith) z) [] (omega arith) (λ k h n. absurd (n refl))
 
 -- a filled entry that passes is its word's form, and back
 entry-right : (mem : List ℕ) (k entry : ℕ) → T (entryRight mem k entry) → (entry ≡ 0 → ⊥) → entry ≡ formAt mem k
@@ -92,10 +97,6 @@ module _ (mem s schedule cache : List ℕ) (z : fastRefusal mem s schedule cache
   unfolding fastRefusal
   each = each-passes 1 (rulesThen mem s schedule (cacheRules mem cache)) (omega arith) z
 
-  pub fast-runnable : Runnable s schedule
-  unfolding each
-  fast-runnable = each-runnable mem s schedule (cacheRules mem cache) each
-
   fast-accepted : AllAccepted s
   unfolding each
   fast-accepted = obeys-accepted s (each .1 .1 .0)
@@ -109,6 +110,10 @@ module _ (mem s schedule cache : List ℕ) (z : fastRefusal mem s schedule cache
   cache-right k h n =
       let z : 0 + k ≡ k = omega arith in
       entry-right mem k (getD cache k 0) (rw z at (from-at (entryRight mem) cache 0 (each .1 .1 .1 .1 .1 .1 .0) k h)) n
+
+  pub fast-runnable : Runnable mem s schedule cache
+  unfolding each
+  fast-runnable = each-runnable mem s schedule (cacheRules mem cache) each cache (omega (arith, cache-length)) cache-right
 
   -- what is left is not refused
   pub again : (mem′ s′ cache′ : List ℕ) → length mem′ ≡ length mem → length s′ ≡ length s → length cache′ ≡ length cache → AllAccepted s′

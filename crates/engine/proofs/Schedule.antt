@@ -91,6 +91,13 @@ step-accepted board p core h a =
     if-both (λ (q : Plain). AllAccepted (q .states)) (isRunning (p .states) core)
     (states-accepted (p .states) core (plainEffect board (p .memory) (p .states) core) (effect-lawful board (p .memory) (p .states) core h a) h a) a
 
+-- after an entry of the fast run, states are accepted and the cache is right again
+pub step-kept : (board : Board) (x : Fast) (core : ℕ) → core < coreCount (x .plain .states) → AllAccepted (x .plain .states)
+    → Right (x .cache) (x .plain .memory) → {y : Fast} → y ≡ fastStep board x core → AllAccepted (y .plain .states) × Right (y .cache) (y .plain .memory)
+step-kept board x core h a r q =
+    let s = step-agrees board x core r in
+    rw (q, s .same-plain) (step-accepted board (x .plain) core h a, rw (s .same-plain) at (s .right-again))
+
 step-length : (board : Board) (p : Plain) (core : ℕ) → length (plainStep board p core .states) ≡ length (p .states)
 unfolding plainStep plainAfter
 step-length board p core =

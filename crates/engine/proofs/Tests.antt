@@ -2,20 +2,20 @@
 use mathlib.Core.Bool.{Bool, true, false, _&&_}
 use mathlib.Core.List.{List, [], _∷_, _++_}
 use mathlib.Core.Path.{_≡_, refl, sym, ap, _∙_}
-use Prim.Native.Nat.{ℕ, zero, suc, _+_, _<_, _≤_}
+use Prim.Native.Nat.{ℕ, zero, suc, _+_, _*_, _<_, _≤_}
 use native.Mathlib.Numerals.{add-one}
 use native.Mathlib.Omega.{arith}
 use lib.Dec.{T}
-use lib.ListN.{length, getD, drop, drop-of-length-le}
+use lib.ListN.{length, getD, take, drop, drop-of-length-le}
 use lib.Seq.{drop-cons}
-use Rattle.bits.proofs.Tests.{and-left, and-right, and-both}
-use Rattle.lawful.specs.Accepted.{all}
+use Rattle.bits.proofs.Tests.{and-left, and-right, and-both, Each}
+use Rattle.effect.specs.State.{pcAt, delayAt, targetAt, srAt, epcrAt, esrAt, linkAt, linkAddressAt, modeAt}
+use Rattle.semantics.specs.Commit.{wordAt}
+use Rattle.lawful.specs.Accepted.{all, rules}
 use Rattle.lawful.proofs.Cases.{by-equality}
+use Rattle.exec.proofs.Own.{mid-word}
+use Rattle.engine.specs.Invariant.{words}
 use Rattle.engine.specs.Refusal.{everyBelow, everyFrom, firstBroken}
-
-pub T-of : (b : Bool) → b ≡ true → T b
-T-of true e = tt
-T-of false e = absurd (let z : _≡_ {A = ℕ} 0 1 = cc in omega arith)
 
 pub and-true : (b : Bool) → b && true ≡ b
 and-true true = refl
@@ -25,9 +25,13 @@ and-false : (b : Bool) → b && false ≡ false
 and-false true = refl
 and-false false = refl
 
--- rules that pass before others
-pub four-pass : {a b c d : Bool} → a ≡ true → b ≡ true → c ≡ true → d ≡ true → (l : List Bool) → all l ≡ all (a ∷ b ∷ c ∷ d ∷ l)
-four-pass p q r s l = rw (p, q, r, s)
+-- a rule that passes before others
+pub pass : {a : Bool} → a ≡ true → (l : List Bool) → all l ≡ all (a ∷ l)
+pass p l = rw p
+
+-- the last of some rules
+pub last : {a b : Bool} → a ≡ b → a ≡ all (b ∷ [])
+last {a} {b} p = p ∙ sym (and-true b)
 
 -- ---- every number below n
 
@@ -95,10 +99,6 @@ module _ (f : ℕ → ℕ → Bool) where
 
 -- ---- rules, in their order
 
-abbrev pub Each : List Bool → Type 0
-Each [] = Unit
-Each (b ∷ l) = T b × Each l
-
 pub each-passes : (n : ℕ) (l : List Bool) → 0 < n → firstBroken n l ≡ 0 → Each l
 unfolding firstBroken
 each-passes n [] h e = tt
@@ -125,3 +125,22 @@ broken-after n (true ∷ l) more h e =
     let z : n + 1 + length l ≡ n + suc (length l) = omega arith in
     broken-after (n + 1) l more (omega arith) e ∙ ap (λ m. firstBroken m more) z
 broken-after n (false ∷ l) more h e = absurd (omega arith)
+
+-- ---- the rules on a state, of the part of the states that it is
+
+pub part-rules : (s : List ℕ) (core : ℕ) → core * 42 + 42 ≤ length s → (n : ℕ) → n ≡ 42
+    → all (rules (words (take n (drop (core * 42) s)))) ≡ all (rules (wordAt s core))
+part-rules s core h n q =
+    let word = mid-word s core h n q in
+    simp (
+      word 0 (omega arith),
+      word pcAt (omega arith),
+      word delayAt (omega arith),
+      word targetAt (omega arith),
+      word srAt (omega arith),
+      word epcrAt (omega arith),
+      word esrAt (omega arith),
+      word linkAt (omega arith),
+      word linkAddressAt (omega arith),
+      word modeAt (omega arith),
+    )

@@ -46,7 +46,7 @@ plainOf mem s n = record { memory = mem; states = s; executed = n .executed; rai
 abbrev pub unlessRefused {ℓ} : {A : Type ℓ} → ℕ → A → A → A
 unlessRefused refusal a b = if eqb refusal 0 then a else b
 
--- the plain run of mem, s and schedule answers r and leaves mem′ and s′
+-- the plain run of mem, s and schedule answers r and leaves mem′ and s′; "reused (0 in the plain run)"
 pub record PlainAnswer (mem s schedule mem′ s′ : List ℕ) (r : Answer) : Type 0 where
   pub refusal : number r ≡ plainRefusal mem s schedule
   pub left : plainOf mem′ s′ (countsOf r) ≡ unlessRefused (plainRefusal mem s schedule) (plainRun mem s schedule) (start mem s)

@@ -20,7 +20,8 @@ pub record Fast : Type 0 where
 abbrev pub filled : ℕ → ℕ
 filled entry = if eqb entry 0 then 0 else 1
 
--- "The step under the fast run executes a filled entry as it stands and not its word"
+-- "The step under the fast run executes a filled entry as it stands and not its word: for every entry that some word decodes to, its outcome is
+-- that form's, also where memory holds another word there." The law is entry-as-it-stands (proofs/Agree.antt).
 abbrev pub cachedForm : List ℕ → List ℕ → ℕ → ℕ
 cachedForm mem cache k = if eqb (getD cache k 0) 0 then formAt mem k else getD cache k 0
 

@@ -1,15 +1,14 @@
 -- What the parts of both runs promise one another. Nothing here is document 01's: Plain, Fast, History and Refusal have that.
 use mathlib.Core.Bool.{Bool, _||_, not}
-use mathlib.Core.List.{List, [], _∷_}
+use mathlib.Core.List.{List}
 use mathlib.Core.Path.{_≡_}
-use Prim.Native.Nat.{ℕ, _+_, _<_, _≤_}
+use Prim.Native.Nat.{ℕ, _+_, _*_, _/_, _<_, _≤_}
 use lib.Dec.{eqb, leb}
-use lib.ListN.{length, getD}
-use Rattle.arith.specs.Status.{allowed}
+use lib.ListN.{length, getD, set}
+use Rattle.bits.specs.Choice.{if_then_else_}
 use Rattle.effect.specs.State.{halted, running}
-use Rattle.effect.specs.declared.types.Inputs.{Inputs}
 use Rattle.semantics.specs.Commit.{coreCount}
-use Rattle.lawful.specs.Accepted.{multiple}
+use Rattle.lawful.specs.Accepted.{AllAccepted}
 use Rattle.engine.specs.Plain.{formAt}
 use Rattle.engine.specs.Fast.{Fast, filled, cachedForm}
 use Rattle.engine.specs.History.{History, cachedAtFirst}
@@ -43,19 +42,33 @@ pub record Grown (n n′ : Counts) : Type 0 where
 
 -- ---- a run
 
--- the schedule can be run on the states
-pub record Runnable (s schedule : List ℕ) : Type 0 where
-  pub few-cores : coreCount s ≤ 4
-  pub few-entries : length schedule ≤ 65536
-  pub names-cores : (i : ℕ) → i < length schedule → getD schedule i 0 < coreCount s
-
 -- every filled entry of a cache is its word's form
 abbrev pub Right : List ℕ → List ℕ → Type 0
 Right cache mem = (k : ℕ) → k < length cache → (getD cache k 0 ≡ 0 → ⊥) → getD cache k 0 ≡ formAt mem k
 
--- a fetch of word k: the entry that is executed, and whether it was there
+-- every entry of a cache is that of a word inside memory
+abbrev pub Backed : List ℕ → List ℕ → Type 0
+Backed cache mem = 4 * length cache ≤ length mem
+
+-- the schedule can be run on what is lent
+pub record Runnable (mem s schedule cache : List ℕ) : Type 0 where
+  pub few-cores : coreCount s ≤ 4
+  pub few-entries : length schedule ≤ 65536
+  pub names-cores : (i : ℕ) → i < length schedule → getD schedule i 0 < coreCount s
+  pub accepted : AllAccepted s
+  pub backed : Backed cache mem
+  pub right : Right cache mem
+
+-- a fetch of word k inside memory: the entry that is executed, and whether it was there
 abbrev pub fetchedOf : List ℕ → List ℕ → ℕ → Fetched
 fetchedOf mem cache k = record { entry = cachedForm mem cache k; reused = filled (getD cache k 0) }
+
+-- a fetch at pc, and the cache after it; entry 0 stands for a word outside memory
+abbrev pub fetchAt : List ℕ → List ℕ → ℕ → Fetched
+fetchAt mem cache pc = if leb (pc + 4) (length mem) then fetchedOf mem cache (pc / 4) else record { entry = 0; reused = 0 }
+
+abbrev pub cacheAfter : List ℕ → List ℕ → ℕ → List ℕ
+cacheAfter mem cache pc = if leb (pc + 4) (length mem) then set cache (pc / 4) (cachedForm mem cache (pc / 4)) else cache
 
 -- ---- the tests
 
@@ -64,25 +77,13 @@ abbrev pub verdictNumber : Verdict → ℕ
 verdictNumber Accepted = 0
 verdictNumber (Refused cause) = refusalNumber cause
 
--- the rules on a state, on what an instruction without fields reads of it (its a is r0) and on its mode
-abbrev pub statusRules : Inputs → List Bool
-statusRules x = eqb (allowed (x .sr)) (x .sr) ∷ eqb (allowed (x .esr)) (x .esr) ∷ []
+-- the word at each place of a state by itself
+abbrev pub words : List ℕ → ℕ → ℕ
+words own place = getD own place 0
 
+-- two of the rules on a state
 abbrev pub unsetIsZero : ℕ → ℕ → Bool
 unsetIsZero flag value = not (eqb flag 0) || eqb value 0
 
-abbrev pub addressRules : Inputs → List Bool
-addressRules x =
-    multiple (x .flow .pc) ∷
-    multiple (x .flow .target) ∷
-    multiple (x .epcr) ∷
-    multiple (x .link .address) ∷
-    unsetIsZero (x .flow .delay) (x .flow .target) ∷
-    unsetIsZero (x .link .held) (x .link .address) ∷
-    statusRules x
-
 abbrev pub isMode : ℕ → Bool
 isMode mode = eqb mode halted || eqb mode running
-
-abbrev pub stateRules : Inputs → ℕ → List Bool
-stateRules x mode = leb (x .flow .delay) 1 ∷ leb (x .link .held) 1 ∷ isMode mode ∷ eqb (x .a) 0 ∷ addressRules x

@@ -10,8 +10,7 @@ use Rattle.memory.specs.Memory.{memoryWord}
 use Rattle.effect.specs.State.{pcAt, modeAt, running}
 use Rattle.effect.specs.declared.types.Board.{Board}
 use Rattle.effect.specs.declared.types.Effect.{Effect}
-use Rattle.semantics.specs.Commit.{wordAt, coreCount, effectOf, fetchFault, statesAfter, memoryAfter}
-use Rattle.exec.specs.Report.{raisedBy}
+use Rattle.semantics.specs.Commit.{wordAt, coreCount, effectOf, fetchFault, statesAfter, memoryAfter, raisedBy}
 
 -- what a run has come to
 pub record Plain : Type 0 where
@@ -55,7 +54,7 @@ unfoldable pub plainStep : Board → Plain → ℕ → Plain
 plainStep board p core =
     if isRunning (p .states) core then plainAfter p core (plainEffect board (p .memory) (p .states) core) else p
 
--- "The schedule's entries go in order, each on what the last left."
+-- "The schedule's entries go in order, each on what the last left." "An empty schedule changes nothing."
 unfoldable pub plainFrom : Board → List ℕ → Plain → Plain
 plainFrom board [] p = p
 plainFrom board (core ∷ schedule) p = plainFrom board schedule (plainStep board p core)

@@ -1,16 +1,14 @@
 // The rules on what is lent, in the order of the refusals' numbers.
 ghost use mathlib.Core.Path.{_≡_};
 ghost use Prim.Native.Nat.{_+_, _*_, _/_, _≤_, _<_};
-ghost use lib.ListN.{length};
+ghost use lib.ListN.{length, drop};
 ghost use Rattle.semantics.specs.Commit.{coreCount};
-ghost use Rattle.lawful.specs.Accepted.{all, accepted};
+ghost use Rattle.lawful.specs.Accepted.{all, rules, accepted};
 ghost use Rattle.engine.specs.Refusal.{memoryFits, statesFit, statesObey, namesCores, entryRight, entriesRight, cacheRules, firstBroken, plainRefusal, fastRefusal};
-ghost use Rattle.engine.specs.Invariant.{verdictNumber, statusRules, addressRules, stateRules, unsetIsZero, isMode};
+ghost use Rattle.engine.specs.Invariant.{verdictNumber, words, unsetIsZero, isMode};
 use crate::answer::Refusal;
 use crate::answer::Verdict;
-use effect::types::Inputs;
-use exec::STATE_WORDS;
-use isa::entry::Fields;
+use effect::state;
 
 fn memory_fits(len: usize) -> bool
     ensures { λ r. ⌜ r ≡ memoryFits len ⌝ }
@@ -27,13 +25,13 @@ fn memory_fits(len: usize) -> bool
 fn states_fit(len: usize) -> bool
     ensures { λ r. ⌜ r ≡ statesFit len ⌝ }
 {
-    if len % STATE_WORDS != 0 {
+    if len % state::STATE_WORDS != 0 {
         return false;
     }
-    if len / STATE_WORDS < 1 {
+    if len / state::STATE_WORDS < 1 {
         return false;
     }
-    len / STATE_WORDS <= 4
+    len / state::STATE_WORDS <= 4
 }
 
 // A target without delay, and a link address without link, are 0.
@@ -55,53 +53,58 @@ fn is_mode(mode: u32) -> bool
     mode == 3
 }
 
-// The rules on SR and ESR.
-fn status_obeys(x: Inputs) -> bool
-    ensures { λ r. ⌜ r ≡ all (statusRules x) ⌝ }
+// The rules on SR and ESR, the last two.
+fn status_obeys(own: &[u32]) -> bool
+    requires { ⌜ 42 ≤ length (now own) ⌝ }
+    ensures { λ r. ⌜ r ≡ all (drop 10 (rules (words (now (own .entry))))) ⌝ }
 {
-    if arith::keep_allowed(x.sr) != x.sr {
+    let sr = own[state::SR];
+    if arith::keep_allowed(sr) != sr {
         return false;
     }
-    arith::keep_allowed(x.esr) == x.esr
+    let esr = own[state::ESR];
+    arith::keep_allowed(esr) == esr
 }
 
 // These, and the rules on addresses.
-fn addresses_obey(x: Inputs) -> bool
-    ensures { λ r. ⌜ r ≡ all (addressRules x) ⌝ }
+fn addresses_obey(own: &[u32]) -> bool
+    requires { ⌜ 42 ≤ length (now own) ⌝ }
+    ensures { λ r. ⌜ r ≡ all (drop 4 (rules (words (now (own .entry))))) ⌝ }
 {
-    if x.flow.pc % 4 != 0 {
+    if own[state::PC] % 4 != 0 {
         return false;
     }
-    if x.flow.target % 4 != 0 {
+    if own[state::TARGET] % 4 != 0 {
         return false;
     }
-    if x.epcr % 4 != 0 {
+    if own[state::EPCR] % 4 != 0 {
         return false;
     }
-    if x.link.address % 4 != 0 {
+    if own[state::LINK_ADDRESS] % 4 != 0 {
         return false;
     }
-    if unset_is_zero(x.flow.delay, x.flow.target) {
-        if unset_is_zero(x.link.held, x.link.address) {
-            return status_obeys(x);
+    if unset_is_zero(own[state::DELAY], own[state::TARGET]) {
+        if unset_is_zero(own[state::LINK], own[state::LINK_ADDRESS]) {
+            return status_obeys(own);
         }
     }
     false
 }
 
 // All the rules on a state.
-fn state_obeys(x: Inputs, mode: u32) -> bool
-    ensures { λ r. ⌜ r ≡ all (stateRules x mode) ⌝ }
+fn state_obeys(own: &[u32]) -> bool
+    requires { ⌜ 42 ≤ length (now own) ⌝ }
+    ensures { λ r. ⌜ r ≡ all (rules (words (now (own .entry)))) ⌝ }
 {
-    if 1 < x.flow.delay {
+    if 1 < own[state::DELAY] {
         return false;
     }
-    if 1 < x.link.held {
+    if 1 < own[state::LINK] {
         return false;
     }
-    if is_mode(mode) {
-        if x.a == 0 {
-            return addresses_obey(x);
+    if is_mode(own[state::MODE]) {
+        if own[0] == 0 {
+            return addresses_obey(own);
         }
     }
     false
@@ -109,24 +112,18 @@ fn state_obeys(x: Inputs, mode: u32) -> bool
 
 fn state_accepted(states: &[u32], core: usize) -> bool
     requires { ⌜ core * 42 + 42 ≤ length (now states) ⌝ }
-    requires { ⌜ core < 4 ⌝ }
     ensures { λ r. ⌜ r ≡ accepted (now (states .entry)) core ⌝ }
 {
-    let none = Fields {
-        d: 0,
-        a: 0,
-        b: 0,
-        immediate: 0,
-    };
-    let x = exec::inputs_of(states, core, none);
-    state_obeys(x, states[core * STATE_WORDS + 41])
+    let base = core * state::STATE_WORDS;
+    let end = base + state::STATE_WORDS;
+    state_obeys(&states[base..end])
 }
 
 fn states_accepted(states: &[u32]) -> bool
     requires { ⌜ coreCount (now states) ≤ 4 ⌝ }
     ensures { λ r. ⌜ r ≡ statesObey (now (states .entry)) ⌝ }
 {
-    let cores = states.len() / STATE_WORDS;
+    let cores = states.len() / state::STATE_WORDS;
     let mut core = 0;
     while core < cores {
         if !state_accepted(states, core) {
@@ -191,7 +188,7 @@ pub fn check(memory: &[u8], states: &[u32], schedule: &[u8]) -> Verdict
     if 0x1_0000 < schedule.len() {
         return Verdict::Refused(Refusal::ScheduleLength);
     }
-    if !names_cores(schedule, states.len() / STATE_WORDS) {
+    if !names_cores(schedule, states.len() / state::STATE_WORDS) {
         return Verdict::Refused(Refusal::NoSuchCore);
     }
     Verdict::Accepted

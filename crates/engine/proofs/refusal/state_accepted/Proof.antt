@@ -1,49 +1,49 @@
-use mathlib.Core.Path.{ap, _∙_}
+use Rattle.engine.proofs.Tests.{part-rules}
+use Rattle.lawful.specs.Accepted.{accepted}
 use native.Mathlib.Omega.{arith}
+use Prim.Native.Nat.{_+_, _-_, _*_}
+use mathlib.Core.Path.{_∙_}
 use denote.Ref.{now}
-use Prim.Native.Nat.{_-_}
-use Rattle.lawful.specs.Accepted.{all, accepted}
-use Rattle.engine.specs.Invariant.{stateRules}
-use Rattle.effect.specs.declared.types.Inputs.{Inputs}
-use Rattle.semantics.specs.Commit.{wordAt, inputs}
 use borrow.Author.Needs.{needs}
 use Rattle.engine.proofs.refusal.state_accepted.Statement.{statement}
 use Rattle.engine.proofs.refusal.state_accepted.Tie as tie
 
-inputs-of-requires : tie.Need-inputs-of-requires
-inputs-of-requires c κs =
-    let p = c .before .pre in
-    (p .0, (record { d = omega arith; a = omega arith; b = omega arith }, p .1))
+mul-base : tie.Need-mul-base
+mul-base c = search needs
+
+add-end : tie.Need-add-end
+add-end c = search needs
 
 mul-state-obeys : tie.Need-mul-state-obeys
 mul-state-obeys c = search needs
 
-add-state-obeys : tie.Need-add-state-obeys
-add-state-obeys c = search needs
+sub-state-obeys : tie.Need-sub-state-obeys
+sub-state-obeys c = search needs
 
-mul-state-obeys-2 : tie.Need-mul-state-obeys-2
-mul-state-obeys-2 c = search needs
+part-state-obeys-start : tie.Need-part-state-obeys-start
+part-state-obeys-start c = search needs
 
-shared-slice-read-state-obeys : tie.Need-shared-slice-read-state-obeys
-shared-slice-read-state-obeys c = search needs
+part-state-obeys-end : tie.Need-part-state-obeys-end
+part-state-obeys-end c = search needs
 
 state-obeys-requires : tie.Need-state-obeys-requires
 state-obeys-requires c κs = search needs
 
 returns : tie.Need-returns
-unfolding accepted inputs
+unfolding accepted
 returns c =
-    let a = c .before .before .before .before .args in
-    c .state-obeys .ensures ∙ ap (λ (x : Inputs). all (stateRules x (wordAt (now (a .states)) (a .core) 41))) (c .before .before .inputs-of .ensures)
+    let a = c .before .before .before .args in
+    c .state-obeys .ensures ∙ part-rules (now (a .states)) (a .core) (c .before .before .before .pre) (a .core * 42 + 42 - a .core * 42) (omega arith)
 
 pub state-accepted-spec : {M : Type 1} → statement M
 state-accepted-spec =
     tie.close
     (tie.spec
-    inputs-of-requires
+    mul-base
+    add-end
     mul-state-obeys
-    add-state-obeys
-    mul-state-obeys-2
-    shared-slice-read-state-obeys
+    sub-state-obeys
+    part-state-obeys-start
+    part-state-obeys-end
     state-obeys-requires
     returns)

@@ -24,7 +24,7 @@ unfolding everyBelow
 loop-holds c = (refl, omega arith)
 
 state-accepted-requires : tie.Need-state-accepted-requires Inv-loop μ-loop
-state-accepted-requires c κs = (omega arith, omega arith)
+state-accepted-requires c κs = omega arith
 
 returns : tie.Need-returns Inv-loop μ-loop
 unfolding statesObey

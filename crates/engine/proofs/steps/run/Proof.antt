@@ -1,20 +1,22 @@
 use mathlib.Core.Path.{_≡_, refl, sym, ap, _∙_}
+use Prim.Native.Nat.{_-_, _<_, _≤_}
 use native.Mathlib.Omega.{arith}
 use lib.ListN.{length, drop}
-use Prim.Native.Nat.{_-_, _≤_}
+use Rattle.semantics.specs.Commit.{coreCount}
+use Rattle.lawful.specs.Accepted.{AllAccepted}
 use Rattle.engine.specs.Plain.{boardOf}
 use Rattle.engine.specs.Fast.{fastStep, fastFrom}
 use Rattle.engine.specs.Answer.{noCounts, AtMost}
-use Rattle.engine.specs.Invariant.{fastOf}
+use Rattle.engine.specs.Invariant.{fastOf, Right}
 use Rattle.engine.proofs.Cases.{grown}
-use Rattle.engine.proofs.Schedule.{from-next, from-end}
+use Rattle.engine.proofs.Schedule.{from-next, from-end, step-kept}
 use borrow.Author.Needs.{needs}
 use Rattle.engine.proofs.steps.run.Statement.{statement}
 use Rattle.engine.proofs.steps.run.Tie as tie
 
 abbrev Inv-loop : tie.InvT-loop
 Inv-loop memory₀ states₀ schedule cache₀ cores board counts₀ i₀ memory states cache counts i =
-    (fastFrom (boardOf states₀) (drop i schedule) (fastOf memory states cache counts) ≡ fastFrom (boardOf states₀) schedule (fastOf memory₀ states₀ cache₀ noCounts)) × AtMost i counts × (i ≤ length schedule) × (length memory ≡ length memory₀) × (length states ≡ length states₀) × (length cache ≡ length cache₀)
+    (fastFrom (boardOf states₀) (drop i schedule) (fastOf memory states cache counts) ≡ fastFrom (boardOf states₀) schedule (fastOf memory₀ states₀ cache₀ noCounts)) × AtMost i counts × (i ≤ length schedule) × (length memory ≡ length memory₀) × (length states ≡ length states₀) × (length cache ≡ length cache₀) × AllAccepted states × Right cache memory
 
 abbrev μ-loop : tie.MeasureT-loop
 μ-loop memory₀ states₀ schedule cache₀ cores board counts₀ i₀ memory states cache counts i = length schedule - i
@@ -24,7 +26,7 @@ cast-t11 c = search needs
 
 loop-holds : tie.Need-loop-holds Inv-loop μ-loop
 loop-holds c =
-    (refl, record { executed-le = omega arith; raised-le = omega arith; reused-le = omega arith }, omega arith, refl, refl, refl)
+    (refl, record { executed-le = omega arith; raised-le = omega arith; reused-le = omega arith }, omega arith, refl, refl, refl, c .before .before .before .before .pre .accepted, c .before .before .before .before .pre .right)
 
 shared-slice-read-of-u8 : tie.Need-shared-slice-read-of-u8 Inv-loop μ-loop
 shared-slice-read-of-u8 c = search needs
@@ -34,8 +36,12 @@ of-u8-requires c κs = search needs
 
 step-requires : tie.Need-step-requires Inv-loop μ-loop
 step-requires c κs =
-    let n = c .before .before .before .before .before .before .before .before .before .before .before .pre .names-cores (c .before .before .before .before .before .before .loop .i) (c .before .before .before .before .before .loop-test .taken) in
-    (omega arith, (omega arith, record { executed-le = omega arith; raised-le = omega arith; reused-le = omega arith }))
+    let p = c .before .before .before .before .before .before .before .before .before .before .before .pre in
+    let l = c .before .before .before .before .before .before .loop in
+    let n = p .names-cores (l .i) (c .before .before .before .before .before .loop-test .taken) in
+    let core = c .before .before .before .of-u8 in
+    let h : core .result < coreCount (l .states) = omega (arith, n, core .ensures, l .inv .4) in
+    (omega arith, (omega arith, (record { executed-le = omega arith; raised-le = omega arith; reused-le = omega arith }, (omega (arith, p .backed, l .inv .3, l .inv .5), l .inv .6 (core .result) h .flow-lawful .pc-multiple))))
 
 add-i : tie.Need-add-i Inv-loop μ-loop
 add-i c = search needs
@@ -47,8 +53,13 @@ loop-again : tie.Need-loop-again Inv-loop μ-loop
 loop-again c =
     let loop-test = c .before .before .before .before .before .before .before .before .before .before .before .before .loop-test in
     let l = c .before .before .before .before .before .before .before .before .before .before .before .before .before .loop in
-    let f = c .before .before .before .before .before .before .step in (
-      ap (fastFrom _ _) (f .ensures .0 ∙ ap (fastStep _ _) (c .before .before .before .before .before .before .before .before .before .before .of-u8 .ensures))
+    let p = c .before .before .before .before .before .before .before .before .before .before .before .before .before .before .before .before .before .before .pre in
+    let core = c .before .before .before .before .before .before .before .before .before .before .of-u8 in
+    let f = c .before .before .before .before .before .before .step in
+    let n = p .names-cores (l .i) (loop-test .taken) in
+    let h : core .result < coreCount (l .states) = omega (arith, n, core .ensures, l .inv .4) in
+    let kept = step-kept _ _ (core .result) h (l .inv .6) (l .inv .7) (f .ensures .0) in (
+      ap (fastFrom _ _) (f .ensures .0 ∙ ap (fastStep _ _) (core .ensures))
           ∙ sym (from-next _ _ (l .i) _ (loop-test .taken))
           ∙ l .inv .0,
       grown (l .i) (l .inv .1) (f .ensures .1),
@@ -56,6 +67,8 @@ loop-again c =
       f .kept .1 .0 ∙ l .inv .3,
       f .kept .1 .1 .0 ∙ l .inv .4,
       f .kept .1 .1 .1 .0 ∙ l .inv .5,
+      kept .0,
+      kept .1,
     )
 
 same-length : tie.Need-same-length Inv-loop μ-loop
