@@ -12,22 +12,11 @@ use card::Cause;
 use card::Field;
 use card::Job;
 use card::Reading;
+use effect::state;
 
 const IMAGE: usize = 16384;
 
-const STATE_WORDS: usize = 42;
-
-const PC: usize = 32;
-
-const SR: usize = 35;
-
-const ESR: usize = 38;
-
-const MODE: usize = 41;
-
 const RESET_SR: u32 = 0x8001;
-
-const RUNNING: u32 = 3;
 
 // Reads a card: a good one's job, with its memory laid out in the image; or the refusal, and nothing written.
 pub fn read_job(card: &[u8], image: &mut [u8]) -> Reading
@@ -124,7 +113,7 @@ pub fn reset(states: &mut [u32], n: u32, entry: u32)
     while i < n {
         reset_state(states, at, entry);
         i += 1;
-        at += STATE_WORDS;
+        at += state::STATE_WORDS;
     }
 }
 
@@ -133,10 +122,10 @@ fn reset_state(states: &mut [u32], at: usize, entry: u32)
     ensures { λ _. ⌜ now (states .exit) ≡ laid (now (states .entry)) at (resetState entry) ⌝ }
 {
     zero_state(states, at);
-    states[at + PC] = entry;
-    states[at + SR] = RESET_SR;
-    states[at + ESR] = RESET_SR;
-    states[at + MODE] = RUNNING;
+    states[at + state::PC] = entry;
+    states[at + state::SR] = RESET_SR;
+    states[at + state::ESR] = RESET_SR;
+    states[at + state::MODE] = state::RUNNING;
 }
 
 fn zero_state(states: &mut [u32], at: usize)
@@ -144,7 +133,7 @@ fn zero_state(states: &mut [u32], at: usize)
     ensures { λ _. ⌜ now (states .exit) ≡ laid (now (states .entry)) at (replicate stateWords 0) ⌝ }
 {
     let mut i: usize = 0;
-    while i < STATE_WORDS {
+    while i < state::STATE_WORDS {
         states[at + i] = 0;
         i += 1;
     }

@@ -1,27 +1,25 @@
 -- The run of a good card's job is not refused. Assumes nothing.
 use mathlib.Core.Path.{_≡_, refl, ap, sym, subst, _∙_}
-use mathlib.Core.Bool.{Bool, true}
 use mathlib.Core.List.{List, [], _∷_, _++_}
 use Prim.Native.Nat.{ℕ, zero, suc, _+_, _*_, _/_, _%_, _≤_, _<_}
 use native.Mathlib.Omega.{arith}
 use borrow.Author.Tests.{eq-eqb, le-leb}
 use lib.Dec.{T, eqb, leb, ltb, lit<}
-use lib.ListN.{length, getD, replicate, length-replicate, getD-replicate}
+use lib.ListN.{length, getD, replicate, length-replicate}
 use lib.Seq.{getD-append-add}
-use Rattle.bits.proofs.Tests.{and-left, and-right, and-both}
+use Rattle.bits.proofs.Tests.{and-left, and-right, and-both, T-of}
 use Rattle.effect.specs.State.{stateWords, pcAt, delayAt, targetAt, srAt, epcrAt, esrAt, linkAt, linkAddressAt, modeAt}
 use Rattle.arith.specs.Status.{allowed, only}
 use Rattle.semantics.specs.Commit.{wordAt, coreCount}
-use Rattle.lawful.specs.Rules.{Mode, is-running, LawfulState}
-use Rattle.lawful.specs.Accepted.{accepted, Accepted}
+use Rattle.lawful.specs.Rules.{Mode, is-running}
+use Rattle.lawful.specs.Accepted.{accepted}
 use Rattle.lawful.proofs.Accepted.{means-accepted}
 use Rattle.lawful.proofs.Cases.{by-equality}
 use Rattle.engine.specs.Refusal.{everyFrom, memoryFits, statesFit, statesObey, scheduleFits, namesCores, cacheFits, entryRight, entriesRight, cacheRules, rulesThen, fastRefusal}
-use Rattle.engine.proofs.Tests.{T-of, of-below, of-from, none-broken}
+use Rattle.engine.proofs.Tests.{of-below, none-broken}
 use Rattle.card.specs.Card.{Job, every}
 use Rattle.card.proofs.Bounds.{Sound}
-use Rattle.job.specs.Laid.{laid}
-use Rattle.job.specs.Job.{bytes, entries, resetSR, resetState, resetStates}
+use Rattle.job.specs.Job.{bytes, resetSR, resetState, resetStates}
 use Rattle.job.proofs.Laws.{length-laid, length-bytes, length-states, length-entries, every-entry}
 use Rattle.play.specs.Output.{memoryOf, statesOf, scheduleOf, emptyCache}
 

@@ -1,12 +1,12 @@
 -- What a good card's run is lent: the first parts of four arrays. Assumes nothing.
-use mathlib.Core.Path.{_≡_, refl, ap, sym, _∙_}
+use mathlib.Core.Path.{_≡_, ap, _∙_}
 use mathlib.Core.List.{List}
-use Prim.Native.Nat.{ℕ, _*_, _/_, _≤_}
+use Prim.Native.Nat.{ℕ, _*_, _/_}
 use native.Mathlib.Omega.{arith}
 use lib.ListN.{take, replicate}
 use Rattle.effect.specs.State.{stateWords}
 use Rattle.engine.specs.Refusal.{fastRefusal}
-use Rattle.card.specs.Answer.{jobAt, scheduleAt, Bounds}
+use Rattle.card.specs.Answer.{jobAt, scheduleAt}
 use Rattle.card.specs.declared.Job.{Job}
 use Rattle.card.proofs.Bounds.{says-sound}
 use Rattle.job.specs.Laid.{laid}

@@ -1,5 +1,5 @@
 -- What the writers leave is the runner's output. Assumes nothing.
-use mathlib.Core.Path.{_≡_, refl, ap, ap₂, sym, subst, _∙_}
+use mathlib.Core.Path.{_≡_, ap, ap₂, sym, subst, _∙_}
 use mathlib.Core.Bool.{false}
 use mathlib.Core.List.{List, _++_}
 use Prim.Native.Nat.{ℕ, _+_, _-_, _*_, _/_, _≤_, _<_}
@@ -10,20 +10,20 @@ use lib.ListN.{length, take, drop, replicate, length-append, length-drop, length
 use Rattle.effect.specs.State.{stateWords}
 use Rattle.engine.specs.Plain.{Plain, plainRun}
 use Rattle.engine.specs.History.{history}
-use Rattle.engine.specs.Refusal.{fastRefusal, refusalNumber}
+use Rattle.engine.specs.Refusal.{fastRefusal}
 use Rattle.engine.specs.Answer.{number, countsOf, plainOf, FastAnswer}
 use Rattle.engine.specs.declared.answer.Counts as engine
 use Rattle.engine.specs.declared.answer.Refusal.{Refusal}
 use Rattle.engine.specs.declared.answer.Answer.{Answer}
 use Rattle.engine.specs.declared.answer.Answer.the-variants.{Ran, Refused}
 use Rattle.engine.proofs.Refusals.{cause-number, fast-runnable}
-use Rattle.report.specs.Answer.{answer, written, resultRoom, refusalRoom}
+use Rattle.report.specs.Answer.{answer, written, resultRoom}
 use Rattle.report.specs.Result.{resultText, refusalText, cores}
 use Rattle.report.specs.declared.Counts.{Counts}
 use Rattle.report.specs.declared.Written.{Written}
 use Rattle.report.specs.declared.Written.the-variants.{Bytes, TooSmall}
 use Rattle.report.proofs.Room.{too-small}
-use Rattle.card.specs.Card.{Job, good, refused, cardSays}
+use Rattle.card.specs.Card.{Job, good, cardSays}
 use Rattle.card.specs.Answer.{refusal, readingIn, jobAt, Bounds}
 use Rattle.card.specs.declared.Cause.{Cause}
 use Rattle.card.specs.declared.Job as code
@@ -32,7 +32,7 @@ use Rattle.card.specs.declared.Reading.the-variants.{Good, Bad}
 use Rattle.job.specs.Job.{imageLength, bytes, imageAfter}
 use Rattle.job.specs.Answer.{ReadJob}
 use Rattle.job.proofs.Laws.{right-image, image-laid, length-bytes}
-use Rattle.play.specs.Output.{memoryOf, runCounts, runText, jobText, verdictText, output}
+use Rattle.play.specs.Output.{runText, jobText, verdictText, output}
 use Rattle.play.specs.Answer.{outputRoom, Among, Printed, Ready}
 use Rattle.play.proofs.Parts.{take-laid-twice}
 

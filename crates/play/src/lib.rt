@@ -10,6 +10,7 @@ ghost use Rattle.play.specs.Answer.{outputRoom, Printed, Ready};
 use card::Cause;
 use card::Job;
 use card::Reading;
+use effect::state;
 use engine::answer::Answer;
 use report::Counts;
 use report::Written;
@@ -25,8 +26,6 @@ const MEMORY_WORDS: usize = 4096;
 const STATES: usize = 168;
 
 const STEPS: usize = 16384;
-
-const STATE_WORDS: usize = 42;
 
 // Document 01's number of each cause.
 fn refusal_number(cause: Cause) -> u32
@@ -68,6 +67,7 @@ fn print_run(
             };
             report::write_result(out, printed, states)
         }
+        // Cannot be: what a good card asks for is accepted.
         Answer::Refused(_) => Written::TooSmall,
     }
 }
@@ -84,7 +84,7 @@ fn print_job(card: &[u8], job: Job, image: &mut [u8], out: &mut [u8]) -> Written
     job::reset(&mut states, job.cores, job.entry);
     job::schedule(card, job, &mut schedule);
     let memory = job.memory as usize;
-    let words = job.cores as usize * STATE_WORDS;
+    let words = job.cores as usize * state::STATE_WORDS;
     let steps = job.steps as usize;
     let entries = memory / 4;
     print_run(

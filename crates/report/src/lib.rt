@@ -8,26 +8,21 @@ ghost use Rattle.print.specs.Put.{Put};
 ghost use Rattle.effect.specs.State.{stateWords};
 ghost use Rattle.report.specs.Result.{lineFeed, countLines, coreLine, registerLine, registerLines, coreText, coreTexts, cores as coresOf, resultText, refusalText};
 ghost use Rattle.report.specs.Answer.{answer, written, countsRoom, resultRoom, refusalRoom};
+use effect::state::DELAY;
+use effect::state::MODE;
+use effect::state::PC;
+use effect::state::SR;
+use effect::state::STATE_WORDS;
 
-// How many words a core's state has, how many of them are registers, and where the others that are printed stand.
-pub const STATE_WORDS: usize = 42;
-
+// How many words of a core's state are registers.
 const REGISTERS: usize = 32;
 
-const PC: usize = 32;
-
-const DELAY: usize = 33;
-
-const SR: usize = 35;
-
-const MODE: usize = 41;
-
 // The bytes that a writer asks for: for a result besides its cores, for each core, and for a refusal.
-pub const ENDS_ROOM: usize = 60;
+const ENDS_ROOM: usize = 60;
 
-pub const CORE_ROOM: usize = 499;
+const CORE_ROOM: usize = 499;
 
-pub const REFUSAL_ROOM: usize = 35;
+const REFUSAL_ROOM: usize = 35;
 
 // The counts that a run reports.
 pub struct Counts {

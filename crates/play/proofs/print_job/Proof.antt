@@ -1,6 +1,6 @@
-use mathlib.Core.Path.{_≡_, refl, sym}
+use mathlib.Core.Path.{refl, sym}
 use native.Mathlib.Omega.{arith}
-use lib.ListN.{length, replicate}
+use lib.ListN.{replicate}
 use lib.Seq.{length-take-le}
 use Rattle.play.proofs.Parts.{length-zeros}
 use Rattle.play.proofs.Printing.{printed-as}

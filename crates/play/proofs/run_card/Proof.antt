@@ -1,4 +1,4 @@
-use mathlib.Core.Path.{_≡_, sym, _∙_}
+use mathlib.Core.Path.{sym, _∙_}
 use native.Mathlib.Omega.{arith}
 use Rattle.play.proofs.Parts.{length-zeros}
 use Rattle.play.proofs.Printing.{no-room, printed-as, bad-output, good-output, ready}
