@@ -4,12 +4,13 @@
 //! has OR1K_ALL_WORDS.
 #![cfg(feature = "engine")]
 
+mod common;
+
 use compare::battery;
 use compare::check::{self, Codec, BY_HISTORY};
 use compare::engine::Archive;
 use compare::programs;
 use compare::rng::Rng;
-use std::io::Write;
 use std::ops::Range;
 use std::sync::atomic::{AtomicU64, Ordering};
 use std::thread;
@@ -28,10 +29,9 @@ fn same(word: u32) -> Result<(), String> {
     check::same_entry(&BY_HISTORY, &Archive, BY_HISTORY.decode(word))
 }
 
-/// Not by `eprintln`, which a test that passes does not show.
 fn progress(done: u64) {
     if done.is_multiple_of(BLOCKS / 16) {
-        let _ = writeln!(std::io::stderr(), "words: {done} of {BLOCKS} blocks compared");
+        common::show(&format!("words: {done} of {BLOCKS} blocks compared"));
     }
 }
 
