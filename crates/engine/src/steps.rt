@@ -109,7 +109,7 @@ pub fn step(
     let pc = crate::index::of_u32(states[base + state::PC]);
     let f = fetch(memory, cache, pc);
     if f.entry == 0 {
-        let fault = exec::fetch_fault(memory, states, core);
+        let fault = exec::fetch_fault(states, core);
         return counted(counts, fault.raised, 0);
     }
     let done = exec::execute(board, memory, states, core, f.entry);

@@ -1,6 +1,7 @@
 // An instruction on what is lent: its inputs are read, and what it does is committed.
+ghost use mathlib.Core.List.{List};
 ghost use mathlib.Core.Path.{_≡_};
-ghost use Prim.Native.Nat.{_+_, _*_, _≤_, _<_};
+ghost use Prim.Native.Nat.{ℕ, _+_, _*_, _≤_, _<_};
 ghost use lib.ListN.{length};
 ghost use Rattle.isa.specs.Parts.{Registers};
 ghost use Rattle.semantics.specs.Commit.{inputs, effectOf, fetchFault, noFields};
@@ -84,7 +85,7 @@ fn no_fields() -> Fields
     }
 }
 
-// Executes an entry as it stands, whatever word memory holds. A part of the states, so that the core's own words are at fixed places.
+// Executes an entry as it stands, whatever word memory holds: on the core's own part of the states, whose words are at fixed places.
 pub fn execute(board: Board, memory: &mut [u8], states: &mut [u32], core: usize, entry: u64) -> Done
     requires { ⌜ core * 42 + 42 ≤ length (now states) ⌝ }
     requires { ⌜ core < 4 ⌝ }
@@ -100,11 +101,11 @@ pub fn execute(board: Board, memory: &mut [u8], states: &mut [u32], core: usize,
     done
 }
 
-// A fetch outside memory raises bus error.
-pub fn fetch_fault(memory: &mut [u8], states: &mut [u32], core: usize) -> Done
+// A fetch outside memory raises bus error, and leaves memory.
+pub fn fetch_fault(states: &mut [u32], core: usize) -> Done
     requires { ⌜ core * 42 + 42 ≤ length (now states) ⌝ }
     requires { ⌜ core < 4 ⌝ }
-    ensures { λ r. ⌜ Executed (now (memory .entry)) (now (states .entry)) core (fetchFault (now (states .entry)) core) (now (memory .exit)) (now (states .exit)) r ⌝ }
+    ensures { λ r. ⌜ ((mem : List ℕ) → Executed mem (now (states .entry)) core (fetchFault (now (states .entry)) core) mem (now (states .exit)) r) ⌝ }
 {
     let x = state_at(states, core);
     let fault = Faulted {

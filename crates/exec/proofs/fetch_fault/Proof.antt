@@ -40,8 +40,8 @@ faulted-requires c κs = search needs
 commit-state-requires : tie.Need-commit-state-requires
 unfolding raises
 commit-state-requires c κs =
-    let a = c .before .before .before .before .before .before .args in
-    (mid-words (now (a .states)) (a .core) (c .before .before .before .before .before .before .pre .0) (a .core * 42 + 42 - a .core * 42) (omega arith), placed-as (c .faulted .ensures) (omega arith))
+    let a = c .before .before .before .before .before .args in
+    (mid-words (now (a .states)) (a .core) (c .before .before .before .before .before .pre .0) (a .core * 42 + 42 - a .core * 42) (omega arith), placed-as (c .faulted .ensures) (omega arith))
 
 same-length : tie.Need-same-length
 same-length c = search needs
@@ -49,13 +49,13 @@ same-length c = search needs
 returns : tie.Need-returns
 unfolding inputs raises
 returns c =
-    let a = c .before .before .before .before .before .before .before .before .before .args in
+    let a = c .before .before .before .before .before .before .before .before .args in
     let s = now (a .states) in
     let x = c .before .before .before .before .before .state-at .ensures in
     let n = a .core * 42 + 42 - a .core * 42 in
     let e = c .before .before .before .faulted .ensures ∙ ap (λ (x : Inputs). faults x Bus (x .flow .pc)) x in
     let o = owned-as e (c .before .before .commit-state .ensures) in
-    executed-kept s (a .core) (kept o refl (now (a .memory))) (mid-committed s (a .core) (c .before .before .before .before .before .before .before .before .before .pre .0) n (omega arith) (fetchFault s (a .core)) (omega arith) (o .left)) refl
+    λ mem. executed-kept s (a .core) (kept o refl mem) (mid-committed s (a .core) (c .before .before .before .before .before .before .before .before .pre .0) n (omega arith) (fetchFault s (a .core)) (omega arith) (o .left)) refl
 
 pub fetch-fault-spec : {M : Type 1} → statement M
 fetch-fault-spec =

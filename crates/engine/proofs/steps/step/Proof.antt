@@ -1,5 +1,5 @@
 use mathlib.Core.Path.{sym, ap, subst, _∙_}
-use mathlib.Core.List.{List}
+use mathlib.Core.List.{List, []}
 use Prim.Native.Nat.{ℕ, _/_, _≤_}
 use native.Mathlib.Omega.{arith}
 use denote.Ref.{now}
@@ -49,7 +49,9 @@ fetch-fault-requires : tie.Need-fetch-fault-requires
 fetch-fault-requires c κs = search needs
 
 counted-requires : tie.Need-counted-requires
-counted-requires c κs = (c .before .before .before .before .before .before .before .before .before .before .before .before .before .before .before .before .before .before .before .before .before .pre .1 .1 .0, (raised-le (c .before .before .before .before .fetch-fault .ensures), omega arith))
+counted-requires c κs =
+    let p = c .before .before .before .before .before .before .before .before .before .before .before .before .before .before .before .before .before .before .pre in
+    (p .1 .1 .0, (raised-le (c .before .before .fetch-fault .ensures []), omega arith))
 
 same-length : tie.Need-same-length
 same-length c = search needs
@@ -62,14 +64,14 @@ same-length-3 c = search needs
 
 returns-2 : tie.Need-returns-2
 returns-2 c =
-    let a = c .before .before .before .before .before .before .before .before .before .before .before .before .before .before .before .before .before .before .before .before .before .before .args in
-    let pc = c .before .before .before .before .before .before .before .before .before .before .before .before .before .before .before .of-u32 in
-    let fetch = c .before .before .before .before .before .before .before .before .before .before .before .before .fetch in
-    let out = found-outside (now (a .memory)) (now (a .cache)) (pc .result) (fetch .ensures .0) (fetch .ensures .1) (c .before .before .before .before .before .before .before .before .if2 .taken) in
-    let fault = c .before .before .before .before .before .fetch-fault in
+    let a = c .before .before .before .before .before .before .before .before .before .before .before .before .before .before .before .before .before .before .before .args in
+    let pc = c .before .before .before .before .before .before .before .before .before .before .before .before .of-u32 in
+    let fetch = c .before .before .before .before .before .before .before .before .before .fetch in
+    let out = found-outside (now (a .memory)) (now (a .cache)) (pc .result) (fetch .ensures .0) (fetch .ensures .1) (c .before .before .before .before .before .if2 .taken) in
+    let fault = c .before .before .before .fetch-fault in
     let q = c .counted .ensures in (
-      ap (λ (l : List ℕ). fastOf (fault .last .0) (fault .last .1 .0) l (c .counted .result)) (out .cache)
-          ∙ fast-outside (a .board) (now (a .memory)) (now (a .states)) (now (a .cache)) (a .core) (a .counts) (q .0) (c .before .before .before .before .before .before .before .before .before .before .before .before .before .before .before .before .before .if1 .left) (omega (arith, out .outside, pc .ensures .0)) (fault .ensures),
+      ap (λ (l : List ℕ). fastOf (now (a .memory)) (fault .last .0) l (c .counted .result)) (out .cache)
+      ∙ fast-outside (a .board) (now (a .memory)) (now (a .states)) (now (a .cache)) (a .core) (a .counts) (q .0) (c .before .before .before .before .before .before .before .before .before .before .before .before .before .before .if1 .left) (omega (arith, out .outside, pc .ensures .0)) (fault .ensures (now (a .memory))),
       q .1,
     )
 
