@@ -71,7 +71,7 @@ returns-2 c =
     let fault = c .before .before .before .fetch-fault in
     let q = c .counted .ensures in (
       ap (λ (l : List ℕ). fastOf (now (a .memory)) (fault .last .0) l (c .counted .result)) (out .cache)
-      ∙ fast-outside (a .board) (now (a .memory)) (now (a .states)) (now (a .cache)) (a .core) (a .counts) (q .0) (c .before .before .before .before .before .before .before .before .before .before .before .before .before .before .if1 .left) (omega (arith, out .outside, pc .ensures .0)) (fault .ensures (now (a .memory))),
+          ∙ fast-outside (a .board) (now (a .memory)) (now (a .states)) (now (a .cache)) (a .core) (a .counts) (q .0) (c .before .before .before .before .before .before .before .before .before .before .before .before .before .before .if1 .left) (omega (arith, out .outside, pc .ensures .0)) (fault .ensures (now (a .memory))),
       q .1,
     )
 
