@@ -14,7 +14,7 @@ use Rattle.semantics.specs.Commit.{wordAt}
 use Rattle.lawful.specs.Accepted.{all, rules}
 use Rattle.lawful.proofs.Cases.{by-equality}
 use Rattle.exec.proofs.Own.{mid-word}
-use Rattle.engine.specs.Invariant.{words}
+use Rattle.exec.specs.Report.{ownWord}
 use Rattle.engine.specs.Refusal.{everyBelow, everyFrom, firstBroken}
 
 pub and-true : (b : Bool) → b && true ≡ b
@@ -129,7 +129,7 @@ broken-after n (false ∷ l) more h e = absurd (omega arith)
 -- ---- the rules on a state, of the part of the states that it is
 
 pub part-rules : (s : List ℕ) (core : ℕ) → core * 42 + 42 ≤ length s → (n : ℕ) → n ≡ 42
-    → all (rules (words (take n (drop (core * 42) s)))) ≡ all (rules (wordAt s core))
+    → all (rules (ownWord (take n (drop (core * 42) s)))) ≡ all (rules (wordAt s core))
 part-rules s core h n q =
     let word = mid-word s core h n q in
     simp (

@@ -77,10 +77,6 @@ abbrev pub verdictNumber : Verdict → ℕ
 verdictNumber Accepted = 0
 verdictNumber (Refused cause) = refusalNumber cause
 
--- the word at each place of a state by itself
-abbrev pub words : List ℕ → ℕ → ℕ
-words own place = getD own place 0
-
 -- two of the rules on a state
 abbrev pub unsetIsZero : ℕ → ℕ → Bool
 unsetIsZero flag value = not (eqb flag 0) || eqb value 0

@@ -1,4 +1,4 @@
--- Both runs: Plain, Fast, which is said by it, History, Refusal; Answer says what a run promises. Invariant serves the proofs.
+-- Both runs: Plain; Fast, which builds on it; History; Refusal. Answer says what a run promises. Invariant serves the proofs.
 pub mod Plain
 pub mod Fast
 pub mod History

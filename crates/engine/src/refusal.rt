@@ -4,8 +4,9 @@ ghost use Prim.Native.Nat.{_+_, _*_, _/_, _≤_, _<_};
 ghost use lib.ListN.{length, drop};
 ghost use Rattle.semantics.specs.Commit.{coreCount};
 ghost use Rattle.lawful.specs.Accepted.{all, rules, accepted};
+ghost use Rattle.exec.specs.Report.{ownWord};
 ghost use Rattle.engine.specs.Refusal.{memoryFits, statesFit, statesObey, namesCores, entryRight, entriesRight, cacheRules, firstBroken, plainRefusal, fastRefusal};
-ghost use Rattle.engine.specs.Invariant.{verdictNumber, words, unsetIsZero, isMode};
+ghost use Rattle.engine.specs.Invariant.{verdictNumber, unsetIsZero, isMode};
 use crate::answer::Refusal;
 use crate::answer::Verdict;
 use effect::state;
@@ -56,7 +57,7 @@ fn is_mode(mode: u32) -> bool
 // The rules on SR and ESR, the last two.
 fn status_obeys(own: &[u32]) -> bool
     requires { ⌜ 42 ≤ length (now own) ⌝ }
-    ensures { λ r. ⌜ r ≡ all (drop 10 (rules (words (now (own .entry))))) ⌝ }
+    ensures { λ r. ⌜ r ≡ all (drop 10 (rules (ownWord (now (own .entry))))) ⌝ }
 {
     let sr = own[state::SR];
     if arith::keep_allowed(sr) != sr {
@@ -69,7 +70,7 @@ fn status_obeys(own: &[u32]) -> bool
 // These, and the rules on addresses.
 fn addresses_obey(own: &[u32]) -> bool
     requires { ⌜ 42 ≤ length (now own) ⌝ }
-    ensures { λ r. ⌜ r ≡ all (drop 4 (rules (words (now (own .entry))))) ⌝ }
+    ensures { λ r. ⌜ r ≡ all (drop 4 (rules (ownWord (now (own .entry))))) ⌝ }
 {
     if own[state::PC] % 4 != 0 {
         return false;
@@ -94,7 +95,7 @@ fn addresses_obey(own: &[u32]) -> bool
 // All the rules on a state.
 fn state_obeys(own: &[u32]) -> bool
     requires { ⌜ 42 ≤ length (now own) ⌝ }
-    ensures { λ r. ⌜ r ≡ all (rules (words (now (own .entry)))) ⌝ }
+    ensures { λ r. ⌜ r ≡ all (rules (ownWord (now (own .entry)))) ⌝ }
 {
     if 1 < own[state::DELAY] {
         return false;

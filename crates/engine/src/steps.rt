@@ -14,7 +14,7 @@ use effect::state;
 use effect::types::Board;
 use exec::Done;
 
-// The form that a fetch executes, and 1 if its entry was filled.
+// The form that a fetch executes, or 0 if it is outside memory; and 1 if its entry was filled.
 pub struct Fetched {
     pub entry: u64,
     pub reused: u32,

@@ -23,8 +23,11 @@ doneBy e = tells (raisedBy (e .outcome)) (e .store)
 
 -- ---- One core's own state, by itself: it is read and written as the states of a board with one core are.
 
+abbrev pub ownWord : List ℕ → ℕ → ℕ
+ownWord own place = getD own place 0
+
 abbrev pub ownInputs : List ℕ → ℕ → Fields → Inputs
-ownInputs own core f = reads core (λ (place : ℕ). getD own place 0) f
+ownInputs own core f = reads core (ownWord own) f
 
 abbrev pub entryInputs : List ℕ → ℕ → ℕ → Inputs
 entryInputs own core entry = ownInputs own core (fieldsOf entry)

@@ -1,10 +1,10 @@
-use Rattle.engine.proofs.Tests.{pass}
-use Rattle.engine.specs.Invariant.{words}
-use Rattle.lawful.specs.Accepted.{rules}
-use borrow.Author.Tests.{eq-eqb, ne-eqb}
-use lib.ListN.{drop}
 use mathlib.Core.Path.{sym, _∙_}
 use denote.Ref.{now}
+use lib.ListN.{drop}
+use borrow.Author.Tests.{eq-eqb, ne-eqb}
+use Rattle.lawful.specs.Accepted.{rules}
+use Rattle.exec.specs.Report.{ownWord}
+use Rattle.engine.proofs.Tests.{pass}
 use borrow.Author.Needs.{needs}
 use Rattle.engine.proofs.refusal.addresses_obey.Statement.{statement}
 use Rattle.engine.proofs.refusal.addresses_obey.Tie as tie
@@ -56,7 +56,7 @@ status-obeys-requires c κs = search needs
 
 returns-5 : tie.Need-returns-5
 returns-5 c =
-    let r = rules (words (now (c .before .before .before .before .before .before .before .before .before .before .before .before .before .before .before .before .before .before .args .own))) in
+    let r = rules (ownWord (now (c .before .before .before .before .before .before .before .before .before .before .before .before .before .before .before .before .before .before .args .own))) in
     c .status-obeys .ensures
     ∙ pass (sym (c .before .before .unset-is-zero2 .ensures) ∙ c .before .if6 .taken) (drop 10 r)
     ∙ pass (sym (c .before .before .before .before .before .before .unset-is-zero .ensures) ∙ c .before .before .before .before .before .if5 .taken) (drop 9 r)

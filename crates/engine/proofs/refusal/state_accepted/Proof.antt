@@ -1,9 +1,9 @@
-use Rattle.engine.proofs.Tests.{part-rules}
-use Rattle.lawful.specs.Accepted.{accepted}
-use native.Mathlib.Omega.{arith}
-use Prim.Native.Nat.{_+_, _-_, _*_}
 use mathlib.Core.Path.{_∙_}
+use Prim.Native.Nat.{_+_, _-_, _*_}
+use native.Mathlib.Omega.{arith}
 use denote.Ref.{now}
+use Rattle.lawful.specs.Accepted.{accepted}
+use Rattle.engine.proofs.Tests.{part-rules}
 use borrow.Author.Needs.{needs}
 use Rattle.engine.proofs.refusal.state_accepted.Statement.{statement}
 use Rattle.engine.proofs.refusal.state_accepted.Tie as tie

@@ -1,10 +1,10 @@
-use Rattle.engine.proofs.Tests.{pass}
-use Rattle.engine.specs.Invariant.{words}
-use Rattle.lawful.specs.Accepted.{rules}
-use borrow.Author.Tests.{eq-eqb, ne-eqb, le-leb, lt-leb}
-use lib.ListN.{drop}
 use mathlib.Core.Path.{sym, _∙_}
 use denote.Ref.{now}
+use lib.ListN.{drop}
+use borrow.Author.Tests.{eq-eqb, ne-eqb, le-leb, lt-leb}
+use Rattle.lawful.specs.Accepted.{rules}
+use Rattle.exec.specs.Report.{ownWord}
+use Rattle.engine.proofs.Tests.{pass}
 use borrow.Author.Needs.{needs}
 use Rattle.engine.proofs.refusal.state_obeys.Statement.{statement}
 use Rattle.engine.proofs.refusal.state_obeys.Tie as tie
@@ -35,7 +35,7 @@ addresses-obey-requires c κs = search needs
 
 returns-3 : tie.Need-returns-3
 returns-3 c =
-    let r = rules (words (now (c .before .before .before .before .before .before .before .before .before .before .before .args .own))) in
+    let r = rules (ownWord (now (c .before .before .before .before .before .before .before .before .before .before .before .args .own))) in
     c .addresses-obey .ensures
     ∙ pass (eq-eqb _ _ (c .before .if4 .taken)) (drop 4 r)
     ∙ pass (sym (c .before .before .before .before .is-mode .ensures) ∙ c .before .before .before .if3 .taken) (drop 3 r)

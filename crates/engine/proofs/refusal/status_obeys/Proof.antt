@@ -1,13 +1,13 @@
-use Rattle.engine.proofs.Tests.{pass, last}
-use Rattle.engine.specs.Invariant.{words}
-use Rattle.effect.specs.State.{esrAt}
-use Rattle.arith.specs.Status.{allowed}
-use borrow.Author.Tests.{eq-eqb, ne-eqb}
-use lib.Dec.{eqb}
-use Prim.Native.Nat.{ℕ}
 use mathlib.Core.Path.{sym, ap, _∙_}
 use mathlib.Core.List.{[], _∷_}
+use Prim.Native.Nat.{ℕ}
 use denote.Ref.{now}
+use lib.Dec.{eqb}
+use borrow.Author.Tests.{eq-eqb, ne-eqb}
+use Rattle.arith.specs.Status.{allowed}
+use Rattle.effect.specs.State.{esrAt}
+use Rattle.exec.specs.Report.{ownWord}
+use Rattle.engine.proofs.Tests.{pass, last}
 use borrow.Author.Needs.{needs}
 use Rattle.engine.proofs.refusal.status_obeys.Statement.{statement}
 use Rattle.engine.proofs.refusal.status_obeys.Tie as tie
@@ -29,7 +29,7 @@ keep-allowed-requires-2 c κs = search needs
 
 returns-2 : tie.Need-returns-2
 returns-2 c =
-    let esr = words (now (c .before .before .before .before .before .before .args .own)) esrAt in
+    let esr = ownWord (now (c .before .before .before .before .before .before .args .own)) esrAt in
     last (ap (λ (x : ℕ). eqb x esr) (c .keep-allowed2 .ensures)) ∙ pass (eq-eqb _ _ (sym (c .before .before .before .keep-allowed .ensures) ∙ c .before .before .if1 .left)) (eqb (allowed esr) esr ∷ [])
 
 pub status-obeys-spec : {M : Type 1} → statement M
