@@ -1,7 +1,7 @@
 use native.Mathlib.Omega.{arith}
-use borrow.Author.Needs.{needs}
 use borrow.Author.Tests.{ne-eqb}
 use Rattle.semantics.specs.Meaning.{control}
+use borrow.Author.Needs.{needs}
 use Rattle.semantics.proofs.branch.Statement.{statement}
 use Rattle.semantics.proofs.branch.Tie as tie
 

@@ -1,9 +1,9 @@
 use mathlib.Core.Bool.{false}
 use mathlib.Core.List.{[], _∷_}
-use borrow.Author.Needs.{needs}
 use native.Mathlib.Omega.{arith}
 use Rattle.bits.proofs.Tests.{within-but}
 use Rattle.semantics.specs.Meaning.{compares}
+use borrow.Author.Needs.{needs}
 use Rattle.semantics.proofs.compare.Statement.{statement}
 use Rattle.semantics.proofs.compare.Tie as tie
 

@@ -1,8 +1,8 @@
 use native.Mathlib.Omega.{arith}
-use borrow.Author.Needs.{needs}
 use borrow.Author.Tests.{ne-eqb}
 use Rattle.effect.specs.Action.{effectBy}
 use Rattle.semantics.specs.Meaning.{control}
+use borrow.Author.Needs.{needs}
 use Rattle.semantics.proofs.control.Statement.{statement}
 use Rattle.semantics.proofs.control.Tie as tie
 

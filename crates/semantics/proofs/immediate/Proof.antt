@@ -1,9 +1,9 @@
 use mathlib.Core.Bool.{false}
 use mathlib.Core.List.{[], _∷_}
-use borrow.Author.Needs.{needs}
-use Rattle.effect.specs.Effect.{sums}
 use Rattle.bits.proofs.Tests.{within-but}
+use Rattle.effect.specs.Effect.{sums}
 use Rattle.semantics.specs.Meaning.{immediates}
+use borrow.Author.Needs.{needs}
 use Rattle.semantics.proofs.immediate.Statement.{statement}
 use Rattle.semantics.proofs.immediate.Tie as tie
 

@@ -1,8 +1,8 @@
 use mathlib.Core.Path.{_≡_}
 use native.Mathlib.Omega.{arith}
-use borrow.Author.Needs.{needs}
 use Rattle.effect.specs.Action.{effectBy}
 use Rattle.semantics.specs.Meaning.{control}
+use borrow.Author.Needs.{needs}
 use Rattle.semantics.proofs.onward.Statement.{statement}
 use Rattle.semantics.proofs.onward.Tie as tie
 

@@ -1,8 +1,8 @@
 use mathlib.Core.Bool.{false}
 use mathlib.Core.List.{[], _∷_}
-use borrow.Author.Needs.{needs}
 use Rattle.bits.proofs.Tests.{within-but}
 use Rattle.semantics.specs.Meaning.{registers}
+use borrow.Author.Needs.{needs}
 use Rattle.semantics.proofs.register.Statement.{statement}
 use Rattle.semantics.proofs.register.Tie as tie
 

@@ -1,8 +1,8 @@
-use borrow.Author.Needs.{needs}
 use borrow.Author.Tests.{ne-eqb}
 use Rattle.memory.specs.Memory.{byte-wide, half-wide, word-wide}
 use Rattle.effect.specs.Action.{effectBy}
 use Rattle.semantics.specs.Meaning.{stores}
+use borrow.Author.Needs.{needs}
 use Rattle.semantics.proofs.store.Statement.{statement}
 use Rattle.semantics.proofs.store.Tie as tie
 

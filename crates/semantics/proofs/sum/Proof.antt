@@ -1,7 +1,7 @@
-use borrow.Author.Needs.{needs}
-use borrow.Author.Tests.{ne-eqb}
 use native.Mathlib.Omega.{arith}
+use borrow.Author.Tests.{ne-eqb}
 use Rattle.semantics.specs.Meaning.{registers}
+use borrow.Author.Needs.{needs}
 use Rattle.semantics.proofs.sum.Statement.{statement}
 use Rattle.semantics.proofs.sum.Tie as tie
 
