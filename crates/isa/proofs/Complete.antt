@@ -14,12 +14,13 @@ use Rattle.bits.proofs.Tests.{and-left, and-right}
 use Rattle.isa.specs.InstructionSet.{Field, D, A, B, I, Row, rows, illegal, fits, firstFit, rowOf, kindRow, width, read, immediate, immediateBits, pack, entry, decode, value, fill, wordFor, candidate}
 use Rattle.isa.specs.Encoding.{encode, Encodes}
 use Rattle.isa.specs.Entry.{fieldsOf}
-use Rattle.isa.specs.Parts.{kindOf, Describes, packed, fieldsIn, bitsOf}
+use Rattle.isa.specs.Parts.{kindOf, packed, fieldsIn, bitsOf}
 use Rattle.isa.specs.declared.encoder.Encoded.the-variants.{Word, Refused}
 use Rattle.isa.specs.declared.entry.Fields.{Fields}
 use Rattle.isa.specs.declared.kinds.Shape.{Shape}
 use Rattle.isa.proofs.Immediates.{form-width, immediate-lt, immediate-back}
 use Rattle.isa.proofs.Pictures.{Agree, Holds, read-lt, entry-same, fill-fits-lt, filled-agrees}
+use Rattle.isa.proofs.Shapes.{Describes}
 use Rattle.isa.proofs.Rows.{hit, found-row, every-row, first-has, kind-range, illegal-entry, own-row}
 
 by-equality : (a b : ℕ) (P : Type 0) → (a ≡ b → P) → ((a ≡ b → ⊥) → P) → P

@@ -1,20 +1,20 @@
 -- The places of a picture's fields, and the computed test that the code's shapes are the rows'. Assumes nothing.
 use mathlib.Core.Path.{_≡_, refl, _∙_, subst, sym, ap, ap₂}
 use mathlib.Core.Bool.{Bool, true, false, _&&_}
-use mathlib.Core.List.{List, [], _∷_}
+use mathlib.Core.List.{List, [], _∷_, map}
 use Prim.Native.Nat.{ℕ, zero, suc, _+_, _*_, _/_, _%_, _^_, _<_}
-use native.Mathlib.Nat.{mod-one, mod-mod, add-mul, mul-assoc, div-one, div-eq-of-lt}
+use native.Mathlib.Nat.{mod-one, mod-mod, add-mul, mul-assoc, div-one, div-eq-of-lt, add-zero, zero-add, add-suc, suc-add, le-of-suc-le-suc, not-suc-le-zero}
 use native.Mathlib.Omega.{arith}
 use lib.Pow.{pow-pos, pow-add, mod-pow-add, shr-shr}
 use lib.Dec.{T, eqb, ltb, eqb→eq, ltb→lt}
 use lib.ListN.{length, getD}
 use Rattle.bits.specs.Choice.{if_then_else_}
 use Rattle.bits.specs.Word.{field, bitAt}
-use Rattle.bits.proofs.Tests.{and-left, and-right, all-entries, at-entry}
+use Rattle.bits.proofs.Tests.{and-left, and-right, within, all-entries, at-entry}
 use Rattle.isa.specs.InstructionSet as set
-use Rattle.isa.specs.InstructionSet.{Field, D, A, B, I, Mark, must, of, reserved, Row, kindRow, sameField, width, read, entry, fill, value, immediateBits, wordFor}
+use Rattle.isa.specs.InstructionSet.{Field, D, A, B, I, Mark, must, of, reserved, Row, rows, rowOf, kindRow, sameField, width, read, entry, fill, value, immediateBits, wordFor}
 use Rattle.isa.specs.Entry.{fieldsOf}
-use Rattle.isa.specs.Parts.{Describes, shapeOf, packed, fieldsIn, bitsOf, gathered, scattered, formOf}
+use Rattle.isa.specs.Parts.{packed, fieldsIn, bitsOf, gathered, scattered, formOf, shapeIn}
 use Rattle.isa.specs.declared.kinds.Place.{Place}
 use Rattle.isa.specs.declared.kinds.Place.the-variants.{None, Low5, Low16, Low26, Split}
 use Rattle.isa.specs.declared.kinds.Shape.{Shape}
@@ -326,19 +326,42 @@ pub present-at : (has : Bool) (x m : ℕ) → (if has then x else 0) * m ≡ (if
 present-at true x m = refl
 present-at false x m = omega arith
 
--- a table of layouts' numbers, each right for its kind
-abbrev pub all-right : List ℕ → Bool
-all-right ns = all-entries (λ k n. right k (shapeOf n)) 0 ns
+-- t says what a word of kind k is made of
+pub record Describes (k : ℕ) (t : Shape) : Type 0 where
+  pub fields : (w : ℕ) → entry (kindRow k) w ≡ packed (kindRow k .kind) (fieldsIn t w)
+  pub word : (e : ℕ) → wordFor (kindRow k) e ≡ wordFor (kindRow k) 0 + bitsOf t (fieldsOf e)
+  pub small : (e : ℕ) → wordFor (kindRow k) e < 2 ^ 32
 
-pub describes : (ns : List ℕ) → T (all-right ns) → (k : ℕ) → k < length ns → Describes k (shapeOf (getD ns k 0))
-describes ns t k h =
-    let p : Placed (kindRow k) (shapeOf (getD ns k 0)) =
-    placed k (shapeOf (getD ns k 0)) (at-entry (λ k n. right k (shapeOf n)) 0 ns t k h) in
+-- the shape that a row's picture has says it, for every kind
+pub describes : (k : ℕ) → k < 80 → {t : Shape} → t ≡ shapeIn (kindRow k) → Describes k t
+unfolding rows rowOf kindRow width
+describes k h {t} e =
+    let p : Placed (kindRow k) t = rw e (placed k (shapeIn (kindRow k)) (within (λ k. right k (shapeIn (kindRow k))) 0 80 tt k (omega arith) h)) in
     record {
-      fields = λ w. entry-placed (kindRow k) (shapeOf (getD ns k 0)) w p;
-      word = λ e. word-placed (kindRow k) (shapeOf (getD ns k 0)) e p;
+      fields = λ w. entry-placed (kindRow k) t w p;
+      word = λ e. word-placed (kindRow k) t e p;
       small = λ e. whole-lt (kindRow k) e (p .small);
     }
+
+-- g at n numbers from i on
+abbrev pub valuesFrom : {A : Type 0} → (ℕ → A) → ℕ → ℕ → List A
+valuesFrom g i zero = []
+valuesFrom g i (suc n) = g i ∷ valuesFrom g (suc i) n
+
+heads : {A : Type 0} {x y : A} {xs ys : List A} → x ∷ xs ≡ y ∷ ys → x ≡ y
+heads e = cc
+
+tails : {A : Type 0} {x y : A} {xs ys : List A} → x ∷ xs ≡ y ∷ ys → xs ≡ ys
+tails e = cc
+
+table-from : {A : Type 0} (f g : ℕ → A) (i : ℕ) (ns : List ℕ) → map f ns ≡ valuesFrom g i (length ns) → (k : ℕ) → k < length ns → f (getD ns k 0) ≡ g (i + k)
+table-from f g i [] e k h = absurd (not-suc-le-zero h)
+table-from f g i (n ∷ ns) e zero h = heads e ∙ ap g (sym (add-zero i))
+table-from f g i (n ∷ ns) e (suc k) h = table-from f g (suc i) ns (tails e) k (le-of-suc-le-suc h) ∙ ap g (suc-add i k ∙ sym (add-suc i k))
+
+-- a table of arguments of f, for which f computes to g at each place
+pub table-values : {A : Type 0} (f g : ℕ → A) (ns : List ℕ) → map f ns ≡ valuesFrom g 0 (length ns) → (k : ℕ) → k < length ns → f (getD ns k 0) ≡ g k
+table-values f g ns e k h = table-from f g 0 ns e k h ∙ ap g (zero-add k)
 
 -- a table of words, each that of its kind with every field 0
 pub bare-words : (ws : List ℕ) → T (all-entries (λ k n. eqb n (wordFor (kindRow k) 0)) 0 ws) → (k : ℕ) → k < length ws →

@@ -1,15 +1,13 @@
 -- What the parts of the decoder and the encoder promise one another. Nothing here is document 01's: InstructionSet has that.
 use mathlib.Core.Bool.{Bool, true, false, _&&_}
-use mathlib.Core.Path.{_≡_}
 use mathlib.Core.List.{List, [], _∷_}
 use Prim.Native.Nat.{ℕ, _+_, _-_, _*_, _%_, _^_, _<_}
-use lib.Dec.{leb}
+use lib.Dec.{eqb, leb, ltb}
 use lib.ListN.{getD}
 use Rattle.bits.specs.Choice.{if_then_else_}
 use Rattle.bits.specs.Word.{field}
 use Rattle.isa.specs.InstructionSet as set
-use Rattle.isa.specs.Entry.{fieldsOf}
-use Rattle.isa.specs.InstructionSet.{rows, firstFit, kindRow, immediate, entry, pack, immediateBits, wordFor}
+use Rattle.isa.specs.InstructionSet.{Mark, must, of, reserved, Row, rows, firstFit, sameField, width, immediate, pack, immediateBits}
 use Rattle.isa.specs.declared.kinds.Place.{Place}
 use Rattle.isa.specs.declared.kinds.Place.the-variants.{None, Low5, Low16, Low26, Split}
 use Rattle.isa.specs.declared.kinds.Form.{Form}
@@ -102,11 +100,30 @@ bitsOf t f =
     (if t .d then f .d * 2 ^ 21 else 0) + (if t .a then f .a * 2 ^ 16 else 0) + (if t .b then f .b * 2 ^ 11 else 0)
     + scattered (t .place) (immediateBits (formOf (t .form)) (f .immediate))
 
--- t is the shape of kind k
-pub record Describes (k : ℕ) (t : Shape) : Type 0 where
-  pub fields : (w : ℕ) → entry (kindRow k) w ≡ packed (kindRow k .kind) (fieldsIn t w)
-  pub word : (e : ℕ) → wordFor (kindRow k) e ≡ wordFor (kindRow k) 0 + bitsOf t (fieldsOf e)
-  pub small : (e : ℕ) → wordFor (kindRow k) e < 2 ^ 32
+-- the shape that a row's picture has: a register is there if it has bits; an immediate of 16 bits is split if the picture leads with it
+abbrev pub has : set.Field → List Mark → Bool
+has f p = ltb 0 (width f p)
+
+abbrev pub leads : List Mark → Bool
+leads [] = false
+leads (must v ∷ p) = false
+leads (of f ∷ p) = sameField f set.I
+leads (reserved ∷ p) = false
+
+abbrev pub placeIn : List Mark → Place
+placeIn p =
+    if eqb (width set.I p) 5 then Low5 else
+    if eqb (width set.I p) 26 then Low26 else
+    if eqb (width set.I p) 16 then (if leads p then Split else Low16) else
+    None
+
+abbrev pub formIn : set.Form → Form
+formIn set.zext = Zext
+formIn set.sext = Sext
+formIn set.jump = Jump
+
+abbrev pub shapeIn : Row → Shape
+shapeIn r = shape (has set.D (r .bits)) (has set.A (r .bits)) (has set.B (r .bits)) (placeIn (r .bits)) (formIn (r .form))
 
 -- the place of a cause in the table of vectors
 abbrev pub causeNumber : Cause → ℕ

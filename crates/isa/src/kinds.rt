@@ -2,7 +2,7 @@
 ghost use mathlib.Core.Path.{_≡_};
 ghost use Prim.Native.Nat.{_<_};
 ghost use Rattle.isa.specs.InstructionSet.{kindRow, wordFor};
-ghost use Rattle.isa.specs.Parts.{Describes, shape as shaped, shapeOf};
+ghost use Rattle.isa.specs.Parts.{shape as shaped, shapeOf, shapeIn};
 
 // Where a word has its immediate.
 pub enum Place {
@@ -236,7 +236,7 @@ fn layout(n: u8) -> Shape
 // Which fields a word of kind k has.
 pub fn shape_of(k: u8) -> Shape
     requires { ⌜ k < 80 ⌝ }
-    ensures { λ r. ⌜ Describes k r ⌝ }
+    ensures { λ r. ⌜ r ≡ shapeIn (kindRow k) ⌝ }
 {
     layout(LAYOUTS[k as usize])
 }

@@ -1,6 +1,7 @@
 use mathlib.Core.Path.{ap, subst, _∙_}
 use Prim.Native.Nat.{ℕ}
-use Rattle.isa.specs.Parts.{Describes, packed, fieldsIn}
+use Rattle.isa.specs.Parts.{packed, fieldsIn}
+use Rattle.isa.proofs.Shapes.{Describes, describes}
 use Rattle.isa.proofs.Complete.{own-entry}
 use borrow.Author.Needs.{needs}
 use Rattle.isa.proofs.decoder.decode.Statement.{statement}
@@ -22,7 +23,7 @@ returns : tie.Need-returns
 returns c = let w = c .before .before .before .before .args .w in
     let k = c .before .before .before .kind-of .ensures .0 in
     let t = c .before .before .shape-of .result in
-    let d = subst (λ (n : ℕ). Describes n t) k (c .before .before .shape-of .ensures) in
+    let d = subst (λ (n : ℕ). Describes n t) k (describes _ (search needs) (c .before .before .shape-of .ensures)) in
     c .pack .ensures ∙ ap (packed (c .before .before .before .kind-of .result)) (c .before .fields .ensures .0) ∙ ap (λ n. packed n (fieldsIn t w)) k ∙ own-entry w t d
 
 pub decode-spec : {M : Type 1} → statement M

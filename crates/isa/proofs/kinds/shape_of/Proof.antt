@@ -1,8 +1,9 @@
+use mathlib.Core.Path.{refl, _∙_}
 use mathlib.Core.List.{List, [], _∷_}
 use Prim.Native.Nat.{ℕ}
-use Rattle.isa.specs.InstructionSet.{rows, rowOf, kindRow}
-use Rattle.isa.specs.Parts.{layouts}
-use Rattle.isa.proofs.Shapes.{describes, all-below}
+use Rattle.isa.specs.InstructionSet.{rows, rowOf, kindRow, width}
+use Rattle.isa.specs.Parts.{layouts, shapeOf, shapeIn}
+use Rattle.isa.proofs.Shapes.{table-values, all-below}
 use borrow.Author.Needs.{needs}
 use Rattle.isa.proofs.kinds.shape_of.Statement.{statement}
 use Rattle.isa.proofs.kinds.shape_of.Tie as tie
@@ -21,8 +22,8 @@ layout-requires : tie.Need-layout-requires
 layout-requires c κs = all-below 15 numbers tt (c .args .k) (search needs)
 
 returns : tie.Need-returns
-unfolding rows rowOf kindRow layouts
-returns c = rw (c .layout .ensures) (describes numbers tt (c .before .args .k) (search needs))
+unfolding rows rowOf kindRow width layouts
+returns c = c .layout .ensures ∙ table-values shapeOf (λ k. shapeIn (kindRow k)) numbers refl (c .before .args .k) (search needs)
 
 pub shape-of-spec : {M : Type 1} → statement M
 shape-of-spec = tie.close (tie.spec array-read-layout layout-requires returns)
