@@ -1,11 +1,11 @@
 -- The forms in which the code hands an effect on to its commit. Nothing here is document 01's: Effect has that.
 use Rattle.arith.specs.declared.Flagged.{Flagged}
-use Rattle.effect.specs.Effect.{advances, flags, halting, faults, overflowing, calling, jumping, returning, linking, saving, unlinking, noStore}
+use Rattle.effect.specs.Effect.{advances, flags, halting, faults, overflowing, jumping, returning, linking, saving, unlinking, noStore}
 use Rattle.effect.specs.declared.types.Inputs.{Inputs}
 use Rattle.effect.specs.declared.types.Effect.{Effect}
 use Rattle.effect.specs.declared.types.Written.{Written}
 use Rattle.effect.specs.declared.types.Action.{Action}
-use Rattle.effect.specs.declared.types.Action.the-variants.{Advance, Jump, Save, Fault, Overflow, Call, Return, Halt, LoadLinked, SaveLinked, SaveUnlinked}
+use Rattle.effect.specs.declared.types.Action.the-variants.{Advance, Jump, Save, Fault, Overflow, Return, Halt, LoadLinked, SaveLinked, SaveUnlinked}
 
 -- the effect of an instruction that writes w and goes on
 abbrev pub goesOn : Inputs → Written → Effect
@@ -22,7 +22,6 @@ effectBy x (Jump j) = jumping x (j .place) (j .value) (j .target)
 effectBy x (Save s) = saving x s
 effectBy x (Fault f) = faults x (f .cause) (f .eear)
 effectBy x (Overflow w) = overflowing x (w .place) (w .value) (w .sr)
-effectBy x Call = calling x
 effectBy x Return = returning x
 effectBy x Halt = halting x
 effectBy x (LoadLinked l) = linking x (l .place) (l .value) (l .address)

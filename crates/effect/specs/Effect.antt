@@ -2,12 +2,12 @@
 -- An instruction reads x : Inputs (its fields, its registers' values and its core's state before it) and has an Effect.
 use mathlib.Core.Bool.{Bool, _&&_}
 use mathlib.Core.List.{List}
+use mathlib.Core.Option.{Option, none, some}
 use Prim.Native.Nat.{ℕ, _*_, _%_}
 use lib.Dec.{eqb, ltb}
 use lib.ListN.{length}
 use Rattle.bits.specs.Choice.{if_then_else_}
 use Rattle.bits.specs.Word.{bit, extend}
-use Rattle.isa.specs.Vectors.{vector}
 use Rattle.isa.specs.declared.vectors.Cause.{Cause}
 use Rattle.isa.specs.declared.vectors.Cause.the-variants.{Bus, Alignment, Illegal, Range, Syscall, Trap}
 use Rattle.arith.specs.Bit.{isSet, setBit}
@@ -15,8 +15,6 @@ use Rattle.arith.specs.Status.{F, OVE, allowed, aligned, setCarryOverflow, exce
 use Rattle.arith.specs.Sums.{addressSum, addressDifference}
 use Rattle.arith.specs.declared.Flagged.{Flagged}
 use Rattle.memory.specs.Memory.{loaded, access}
-use Rattle.memory.specs.declared.Access.{Access}
-use Rattle.memory.specs.declared.Access.the-variants.{Granted, Misaligned, BusError}
 use Rattle.effect.specs.State.{epcrAt, eearAt, esrAt, halted, running}
 use Rattle.effect.specs.declared.types.Inputs.{Inputs}
 use Rattle.effect.specs.declared.types.Flow.{Flow}
@@ -87,23 +85,32 @@ nop x = if eqb (x .immediate) 1 then halting x else nothing x
 unfoldable pub restart : Inputs → ℕ
 restart x = if inSlot x then addressDifference (x .flow .pc) 4 else x .flow .pc
 
+-- "syscall gives PC + 4"
+abbrev pub exceptionPC : Inputs → Cause → ℕ
+exceptionPC x Bus = restart x
+exceptionPC x Alignment = restart x
+exceptionPC x Illegal = restart x
+exceptionPC x Range = restart x
+exceptionPC x Syscall = addressSum (x .flow .pc) 4
+exceptionPC x Trap = restart x
+
 -- An exception, once v went to place and SR became sr. "ESR takes SR; then SM = 1, TEE, IEE, OVE = 0, DSX = slot." "Delay, target and link are
--- cleared."
-unfoldable pub raises : Inputs → ℕ → ℕ → ℕ → Cause → ℕ → ℕ → Effect
-raises x place v sr cause epcr eear = record {
+-- cleared." Its cause has the vector, to which PC goes when the exception is committed (putException).
+unfoldable pub raises : Inputs → ℕ → ℕ → ℕ → Cause → ℕ → Effect
+raises x place v sr cause eear = record {
   place = place;
   value = v;
   sr = exceptionSR (bit (inSlot x)) sr;
-  flow = record { pc = vector cause; delay = 0; target = 0 };
+  flow = record { pc = x .flow .pc; delay = 0; target = 0 };
   link = noLink;
   mode = running;
   store = noStore;
-  outcome = Raised (record { cause = cause; epcr = epcr; eear = eear; esr = sr });
+  outcome = Raised (record { cause = cause; epcr = exceptionPC x cause; eear = eear; esr = sr });
 }
 
 -- "Bus and alignment put the failing address in EEAR, illegal its own; others keep it."
 abbrev pub faults : Inputs → Cause → ℕ → Effect
-faults x cause eear = raises x 0 0 (x .sr) cause (restart x) eear
+faults x cause eear = raises x 0 0 (x .sr) cause eear
 
 abbrev pub illegal : Inputs → Effect
 illegal x = faults x Illegal (x .flow .pc)
@@ -116,12 +123,8 @@ trap x = faults x Trap (x .eear)
 abbrev pub outsideSlot : Inputs → Effect → Effect
 outsideSlot x e = if inSlot x then illegal x else e
 
--- "syscall gives PC + 4"
-abbrev pub calling : Inputs → Effect
-calling x = raises x 0 0 (x .sr) Syscall (addressSum (x .flow .pc) 4) (x .eear)
-
 unfoldable pub syscall : Inputs → Effect
-syscall x = outsideSlot x (calling x)
+syscall x = outsideSlot x (faults x Syscall (x .eear))
 
 -- ---- sums
 
@@ -134,7 +137,7 @@ sums x f = advances x (x .d) (f .value) (flags x f)
 
 -- "add, addc and sub with OV and SR[OVE] both 1 raise range after rD and flags are written."
 abbrev pub overflowing : Inputs → ℕ → ℕ → ℕ → Effect
-overflowing x place v sr = raises x place v sr Range (restart x) (x .eear)
+overflowing x place v sr = raises x place v sr Range (x .eear)
 
 unfoldable pub sumsOrRaises : Inputs → Flagged → Effect
 sumsOrRaises x f =
@@ -179,10 +182,9 @@ abbrev pub effectiveAddress : Inputs → ℕ
 effectiveAddress x = addressSum (x .a) (x .immediate)
 
 -- "Loads, stores and p.*: alignment first (words 4, halves 2), then bus error if any byte is outside."
-abbrev pub granted : Inputs → Access → ℕ → Effect → Effect
-granted x Granted at e = e
-granted x Misaligned at e = faults x Alignment at
-granted x BusError at e = faults x Bus at
+abbrev pub granted : Inputs → Option Cause → ℕ → Effect → Effect
+granted x none at e = e
+granted x (some cause) at e = faults x cause at
 
 abbrev pub reaches : Inputs → ℕ → ℕ → Effect → Effect
 reaches x n len e = granted x (access n len (effectiveAddress x)) (effectiveAddress x) e

@@ -13,7 +13,6 @@ use crate::types::Inputs;
 use crate::types::Link;
 use crate::types::Linked;
 use crate::types::Store;
-use isa::vectors::Cause;
 use memory::Access;
 
 fn address(x: Inputs) -> u32
@@ -32,8 +31,7 @@ pub fn load(x: Inputs, mem: &[u8], width: u32, signed: bool) -> Action
             x,
             memory::load_extended(mem, at, width, signed),
         )),
-        Access::Misaligned => raised::fault(Cause::Alignment, at),
-        Access::BusError => raised::fault(Cause::Bus, at),
+        Access::Fault(cause) => raised::fault(cause, at),
     }
 }
 
@@ -67,8 +65,7 @@ pub fn load_linked(x: Inputs, mem: &[u8]) -> Action
             value: memory::load(mem, at, 4),
             address: at,
         }),
-        Access::Misaligned => raised::fault(Cause::Alignment, at),
-        Access::BusError => raised::fault(Cause::Bus, at),
+        Access::Fault(cause) => raised::fault(cause, at),
     }
 }
 
@@ -97,8 +94,7 @@ pub fn store(x: Inputs, len: usize, width: u32) -> Action
     let at = address(x);
     match memory::test(len, at, width) {
         Access::Granted => Action::Save(storing(x, width)),
-        Access::Misaligned => raised::fault(Cause::Alignment, at),
-        Access::BusError => raised::fault(Cause::Bus, at),
+        Access::Fault(cause) => raised::fault(cause, at),
     }
 }
 
@@ -146,8 +142,7 @@ pub fn store_conditional(x: Inputs, len: usize) -> Action
     let at = address(x);
     match memory::test(len, at, 4) {
         Access::Granted => conditional(x),
-        Access::Misaligned => raised::fault(Cause::Alignment, at),
-        Access::BusError => raised::fault(Cause::Bus, at),
+        Access::Fault(cause) => raised::fault(cause, at),
     }
 }
 
@@ -158,7 +153,6 @@ pub fn touch(x: Inputs, len: usize) -> Action
     let at = address(x);
     match memory::test(len, at, 1) {
         Access::Granted => Action::Advance(completed::nothing(x)),
-        Access::Misaligned => raised::fault(Cause::Alignment, at),
-        Access::BusError => raised::fault(Cause::Bus, at),
+        Access::Fault(cause) => raised::fault(cause, at),
     }
 }

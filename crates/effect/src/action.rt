@@ -20,7 +20,6 @@ pub fn effect_by(x: Inputs, action: Action) -> Effect
         Action::Save(s) => accesses::saved(x, s),
         Action::Fault(f) => raised::faulted(x, f),
         Action::Overflow(w) => raised::overflowed(x, w),
-        Action::Call => raised::called(x),
         Action::Return => jumps::returned(x),
         Action::Halt => completed::halted(x),
         Action::LoadLinked(l) => accesses::load_linked_effect(x, l),

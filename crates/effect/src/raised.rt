@@ -1,6 +1,6 @@
 // Instructions that raise an exception.
 ghost use mathlib.Core.Path.{_≡_};
-ghost use Rattle.effect.specs.Effect.{restart as restartOf, raises, faults, illegal as illegalOf, trap as trapOf, syscall as syscallOf, calling, overflowing, inSlot};
+ghost use Rattle.effect.specs.Effect.{restart as restartOf, exceptionPC, raises, faults, illegal as illegalOf, trap as trapOf, syscall as syscallOf, overflowing, inSlot};
 ghost use Rattle.effect.specs.Action.{effectBy};
 ghost use Rattle.effect.specs.declared.types.Inputs.{Inputs};
 ghost use Prim.Native.Nat.{_<_};
@@ -15,17 +15,26 @@ use crate::types::Inputs;
 use crate::types::Link;
 use crate::types::Outcome;
 use crate::types::Written;
-use isa::vectors;
 use isa::vectors::Cause;
 
 // The address that EPCR keeps: in a slot, its jump's.
-pub fn restart(x: Inputs) -> u32
+fn restart(x: Inputs) -> u32
     ensures { λ r. ⌜ r ≡ restartOf x ⌝ }
 {
     if completed::in_slot(x) {
         arith::address_sub(x.flow.pc, 4)
     } else {
         x.flow.pc
+    }
+}
+
+// EPCR of an exception: l.sys goes on after itself.
+fn exception_pc(x: Inputs, cause: Cause) -> u32
+    ensures { λ r. ⌜ r ≡ exceptionPC x cause ⌝ }
+{
+    match cause {
+        Cause::Syscall => arith::address_add(x.flow.pc, 4),
+        _ => restart(x),
     }
 }
 
@@ -36,24 +45,16 @@ fn slot_bit(x: Inputs) -> u32
     if completed::in_slot(x) { 1 } else { 0 }
 }
 
-// The exception, once `value` went to `place` and SR became `sr`.
-pub fn raise(
-    x: Inputs,
-    place: u32,
-    value: u32,
-    sr: u32,
-    cause: Cause,
-    epcr: u32,
-    eear: u32,
-) -> Effect
-    ensures { λ r. ⌜ r ≡ raises x place value sr cause epcr eear ⌝ }
+// The exception, once `value` went to `place` and SR became `sr`. Its commit goes to the vector.
+fn raise(x: Inputs, place: u32, value: u32, sr: u32, cause: Cause, eear: u32) -> Effect
+    ensures { λ r. ⌜ r ≡ raises x place value sr cause eear ⌝ }
 {
     Effect {
         place,
         value,
         sr: arith::exception_sr(sr, slot_bit(x)),
         flow: Flow {
-            pc: vectors::vector(cause),
+            pc: x.flow.pc,
             delay: 0,
             target: 0,
         },
@@ -65,34 +66,26 @@ pub fn raise(
         store: completed::no_store(),
         outcome: Outcome::Raised(Exception {
             cause,
-            epcr,
+            epcr: exception_pc(x, cause),
             eear,
             esr: sr,
         }),
     }
 }
 
-// The effect of a fault.
+// The effect of an exception before anything is written.
 pub fn faulted(x: Inputs, f: Faulted) -> Effect
     ensures { λ r. ⌜ r ≡ faults x (f .cause) (f .eear) ⌝ }
 {
     let cause = f.cause;
-    raise(x, 0, 0, x.sr, cause, restart(x), f.eear)
+    raise(x, 0, 0, x.sr, cause, f.eear)
 }
 
 // The effect of an overflow, once rD and SR are written.
 pub fn overflowed(x: Inputs, w: Written) -> Effect
     ensures { λ r. ⌜ r ≡ overflowing x (w .place) (w .value) (w .sr) ⌝ }
 {
-    raise(x, w.place, w.value, w.sr, Cause::Range, restart(x), x.eear)
-}
-
-// The effect of l.sys outside a slot.
-pub fn called(x: Inputs) -> Effect
-    ensures { λ r. ⌜ r ≡ calling x ⌝ }
-{
-    let next = arith::address_add(x.flow.pc, 4);
-    raise(x, 0, 0, x.sr, Cause::Syscall, next, x.eear)
+    raise(x, w.place, w.value, w.sr, Cause::Range, x.eear)
 }
 
 pub fn fault(cause: Cause, eear: u32) -> Action
@@ -119,5 +112,5 @@ pub fn syscall(x: Inputs) -> Action
     if completed::in_slot(x) {
         return illegal(x);
     }
-    Action::Call
+    fault(Cause::Syscall, x.eear)
 }

@@ -80,7 +80,7 @@ pub struct Jumped {
     pub target: u32,
 }
 
-// An exception that an instruction raises before it writes anything.
+// An exception that an instruction raises before it writes anything, and what EEAR becomes.
 pub struct Faulted {
     pub cause: Cause,
     pub eear: u32,
@@ -100,7 +100,6 @@ pub enum Action {
     Save(Store),
     Fault(Faulted),
     Overflow(Written),
-    Call,
     Return,
     Halt,
     LoadLinked(Linked),

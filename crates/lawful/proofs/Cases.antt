@@ -1,15 +1,13 @@
 -- A fact about a choice, from what holds in each of its cases. Assumes nothing.
 use mathlib.Core.Bool.{Bool, true, false}
+use mathlib.Core.Option.{Option, none, some}
 use mathlib.Core.Path.{_≡_, refl}
 use Prim.Native.Nat.{ℕ}
 use lib.Dec.{eqb}
 use borrow.Author.Tests.{eqb-true, eqb-false}
 use Rattle.bits.specs.Choice.{if_then_else_}
 use Rattle.isa.specs.declared.vectors.Cause.{Cause}
-use Rattle.isa.specs.declared.vectors.Cause.the-variants.{Bus, Alignment}
 use Rattle.memory.specs.Memory.{access}
-use Rattle.memory.specs.declared.Access.{Access}
-use Rattle.memory.specs.declared.Access.the-variants.{Granted, Misaligned, BusError}
 use Rattle.effect.specs.Effect.{effectiveAddress, faults, granted, reaches}
 use Rattle.effect.specs.declared.types.Inputs.{Inputs}
 use Rattle.effect.specs.declared.types.Effect.{Effect}
@@ -32,11 +30,10 @@ by-equality a b {P} f g = go (eqb a b) refl
     go false e = g (eqb-false a b e)
 
 -- an access is granted, or its instruction faults
-pub reaches-law : (P : Effect → Type 0) (x : Inputs) (n len : ℕ) {e : Effect} → (access n len (effectiveAddress x) ≡ Granted → P e)
+pub reaches-law : (P : Effect → Type 0) (x : Inputs) (n len : ℕ) {e : Effect} → (access n len (effectiveAddress x) ≡ none → P e)
     → ((cause : Cause) (eear : ℕ) → P (faults x cause eear)) → P (reaches x n len e)
 reaches-law P x n len {e} p q = go (access n len (effectiveAddress x)) refl
   where
-    go : (a : Access) → access n len (effectiveAddress x) ≡ a → P (granted x a (effectiveAddress x) e)
-    go Granted h = p h
-    go Misaligned h = q Alignment (effectiveAddress x)
-    go BusError h = q Bus (effectiveAddress x)
+    go : (o : Option Cause) → access n len (effectiveAddress x) ≡ o → P (granted x o (effectiveAddress x) e)
+    go none h = p h
+    go (some cause) h = q cause (effectiveAddress x)

@@ -11,6 +11,7 @@ use borrow.Author.Tests.{ne-eqb, eqb-true, eqb-false}
 use Rattle.bits.specs.Choice.{if_then_else_}
 use Rattle.bits.proofs.Tests.{and-left, and-right}
 use Rattle.effect.specs.State.{stateWords, pcAt, delayAt, targetAt, srAt, epcrAt, eearAt, esrAt, linkAt, linkAddressAt, modeAt}
+use Rattle.isa.specs.Vectors.{vector}
 use Rattle.effect.specs.declared.types.Outcome.{Outcome}
 use Rattle.effect.specs.declared.types.Outcome.the-variants.{Completed, Raised}
 use Rattle.effect.specs.declared.types.Effect.{Effect}
@@ -18,6 +19,7 @@ use Rattle.semantics.specs.Commit.{wordAt, put, putValue, putFlow, putStatus, p
 use Rattle.lawful.specs.Rules.{Status, Multiple, LawfulState, LawfulWord, to-register, to-epcr, to-eear, to-esr, LawfulOutcome, completes, raised, Lawful}
 use Rattle.lawful.specs.Accepted.{Accepted}
 use Rattle.lawful.proofs.Cases.{if-law, if-both}
+use Rattle.lawful.proofs.Lawful.{vector-multiple}
 
 -- ---- several words put into one core's state: pairs of a place and a word
 
@@ -63,7 +65,7 @@ always e l =
 
 abbrev exceptional : Outcome → List (ℕ × ℕ)
 exceptional Completed = []
-exceptional (Raised x) = (epcrAt, x .epcr) ∷ (eearAt, x .eear) ∷ (esrAt, x .esr) ∷ []
+exceptional (Raised x) = (pcAt, vector (x .cause)) ∷ (epcrAt, x .epcr) ∷ (eearAt, x .eear) ∷ (esrAt, x .esr) ∷ []
 
 -- what an effect puts there, after its value
 abbrev pub changes : Effect → Outcome → List (ℕ × ℕ)
@@ -179,10 +181,15 @@ module _ (s : List ℕ) (core : ℕ) (fits : core * stateWords + stateWords ≤ 
         esr-lawful = v .esr-kept;
         mode-lawful = l .mode-lawful;
       }
-  changed e l (raised m q) t v =
+  changed e l (raised {x} m q) t v =
       record {
         zero-register = v .zero-kept;
-        flow-lawful = l .flow-lawful;
+        flow-lawful = record {
+          delay-bit = l .flow-lawful .delay-bit;
+          pc-multiple = vector-multiple (x .cause);
+          target-multiple = l .flow-lawful .target-multiple;
+          no-target = l .flow-lawful .no-target;
+        };
         link-lawful = l .link-lawful;
         sr-lawful = l .sr-lawful;
         epcr-lawful = m;

@@ -21,7 +21,7 @@ use Rattle.arith.proofs.Status.{allowed-flag, allowed-carry-overflow, allowed-e
 use Rattle.arith.proofs.Sums.{Ranged, bit-lt, address-sum-multiple}
 use Rattle.memory.proofs.Laws.{granted-aligned}
 use Rattle.effect.specs.State.{epcrAt, eearAt, esrAt}
-use Rattle.effect.specs.Effect.{completed, inSlot, onward, advances, nop, setsFlag, restart, raises, faults, syscall, flags, sums, sumsOrRaises, jumping, jump, branch, registerJump, returns, load, loadLinked, linked, store, storeConditional, touch, setsSpecialRegister}
+use Rattle.effect.specs.Effect.{completed, inSlot, onward, advances, nop, setsFlag, restart, exceptionPC, raises, faults, syscall, flags, sums, sumsOrRaises, jumping, jump, branch, registerJump, returns, load, loadLinked, linked, store, storeConditional, touch, setsSpecialRegister}
 use Rattle.effect.specs.declared.types.Inputs.{Inputs}
 use Rattle.effect.specs.declared.types.Board.{Board}
 use Rattle.effect.specs.declared.types.Flow.{Flow}
@@ -41,7 +41,7 @@ difference-multiple a b ma mb =
     rw (ap₂ _-ℤ_ (sub-zero a) (sub-zero b) ∙ sub-sub a 0 b 0 ∙ ap₂ subℕ e f)
     (by-sign a b (λ z. Multiple (word z)) (λ h. omega arith) (λ h. omega arith))
 
-vector-multiple : (c : Cause) → Multiple (vector c)
+pub vector-multiple : (c : Cause) → Multiple (vector c)
 vector-multiple Bus = refl
 vector-multiple Alignment = refl
 vector-multiple Illegal = refl
@@ -99,27 +99,32 @@ module _ (x : Inputs) (i : LawfulInputs x) where
       (completed-lawful (to-register (omega arith)) (i .sr-lawful) onward-lawful (i .link-lawful) is-halted)
       nothing-lawful
 
-  pub raises-lawful : (place v sr : ℕ) (cause : Cause) (epcr eear : ℕ) → LawfulWord place v → Status sr → Multiple epcr
-      → Lawful (raises x place v sr cause epcr eear)
+  exception-pc-multiple : (cause : Cause) → Multiple (exceptionPC x cause)
+  exception-pc-multiple Bus = restart-multiple
+  exception-pc-multiple Alignment = restart-multiple
+  exception-pc-multiple Illegal = restart-multiple
+  exception-pc-multiple Range = restart-multiple
+  exception-pc-multiple Syscall = next-multiple 4 refl
+  exception-pc-multiple Trap = restart-multiple
+
+  pub raises-lawful : (place v sr : ℕ) (cause : Cause) (eear : ℕ) → LawfulWord place v → Status sr → Lawful (raises x place v sr cause eear)
   unfolding raises
-  raises-lawful place v sr cause epcr eear w s m =
+  raises-lawful place v sr cause eear w s =
       record {
         word-lawful = w;
-        flow-lawful = straight _ (vector-multiple cause);
+        flow-lawful = straight _ (i .flow-lawful .pc-multiple);
         link-lawful = no-link-lawful;
         sr-lawful = allowed-exception sr s (bit (inSlot x)) (bit-lt (inSlot x));
         mode-lawful = is-running;
-        outcome-lawful = raised m s;
+        outcome-lawful = raised (exception-pc-multiple cause) s;
       }
 
   pub faults-lawful : (cause : Cause) (eear : ℕ) → Lawful (faults x cause eear)
-  faults-lawful cause eear = raises-lawful 0 0 (x .sr) cause (restart x) eear (to-register (omega arith)) (i .sr-lawful) restart-multiple
+  faults-lawful cause eear = raises-lawful 0 0 (x .sr) cause eear (to-register (omega arith)) (i .sr-lawful)
 
   pub syscall-lawful : Lawful (syscall x)
   unfolding syscall
-  syscall-lawful =
-      if-both Lawful (inSlot x) (faults-lawful _ _)
-      (raises-lawful 0 0 (x .sr) _ _ _ (to-register (omega arith)) (i .sr-lawful) (next-multiple 4 refl))
+  syscall-lawful = if-both Lawful (inSlot x) (faults-lawful _ _) (faults-lawful _ _)
 
   flags-lawful : (f : Flagged) → Ranged f → Status (flags x f)
   flags-lawful f r = allowed-carry-overflow (x .sr) (i .sr-lawful) (f .carry) (f .overflow) (r .carry-lt) (r .overflow-lt)
@@ -132,7 +137,7 @@ module _ (x : Inputs) (i : LawfulInputs x) where
   unfolding sumsOrRaises
   raising-sums-lawful f r =
       if-both Lawful (isSet OVE (x .sr) && eqb (f .overflow) 1)
-      (raises-lawful (x .d) (f .value) _ _ _ _ (to-register (i .register)) (flags-lawful f r) restart-multiple)
+      (raises-lawful (x .d) (f .value) _ _ _ (to-register (i .register)) (flags-lawful f r))
       (sums-lawful f r)
 
   jumping-lawful : (place v to : ℕ) → place < 32 → Multiple to → Lawful (jumping x place v to)

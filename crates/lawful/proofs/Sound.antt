@@ -1,6 +1,7 @@
 -- Every instruction's effect is sound. Assumes nothing.
 use mathlib.Core.Bool.{Bool, _&&_}
 use mathlib.Core.List.{List}
+use mathlib.Core.Option as option
 use mathlib.Core.Path.{_≡_, refl}
 use Prim.Native.Nat.{ℕ, _%_, _<_}
 use native.Mathlib.Omega.{arith}
@@ -9,7 +10,6 @@ use lib.ListN.{length}
 use Rattle.isa.specs.declared.vectors.Cause.{Cause}
 use Rattle.isa.specs.declared.vectors.Cause.the-variants.{Alignment}
 use Rattle.memory.specs.Memory.{Width, word-wide, access}
-use Rattle.memory.specs.declared.Access.the-variants.{Granted}
 use Rattle.memory.proofs.Laws.{granted-inside, granted-in-word}
 use Rattle.arith.specs.Bit.{isSet}
 use Rattle.arith.specs.Status.{OVE}
@@ -40,16 +40,16 @@ module _ (len : ℕ) (x : Inputs) where
       if-both (Sound len) (eqb (x .immediate) 1) (record { place-lt = omega arith; sound-store = none refl })
       (advances-sound 0 0 (x .sr) (omega arith))
 
-  pub raises-sound : (place v sr : ℕ) (cause : Cause) (epcr eear : ℕ) → place < stateWords → Sound len (raises x place v sr cause epcr eear)
+  pub raises-sound : (place v sr : ℕ) (cause : Cause) (eear : ℕ) → place < stateWords → Sound len (raises x place v sr cause eear)
   unfolding raises
-  raises-sound place v sr cause epcr eear h = record { place-lt = h; sound-store = none refl }
+  raises-sound place v sr cause eear h = record { place-lt = h; sound-store = none refl }
 
   pub faults-sound : (cause : Cause) (eear : ℕ) → Sound len (faults x cause eear)
-  faults-sound cause eear = raises-sound 0 0 _ cause _ eear (omega arith)
+  faults-sound cause eear = raises-sound 0 0 _ cause eear (omega arith)
 
   pub syscall-sound : Sound len (syscall x)
   unfolding syscall
-  syscall-sound = if-both (Sound len) (inSlot x) (faults-sound _ _) (raises-sound 0 0 _ _ _ _ (omega arith))
+  syscall-sound = if-both (Sound len) (inSlot x) (faults-sound _ _) (faults-sound _ _)
 
   pub jump-sound : (place v to : ℕ) → place < stateWords → Sound len (jump x place v to)
   unfolding jump
@@ -74,7 +74,7 @@ module _ (len : ℕ) (x : Inputs) where
   touch-sound = reaches-law (Sound len) x 1 len (λ g. advances-sound 0 0 (x .sr) (omega arith)) faults-sound
 
   -- a granted access stores into one word
-  storing-in-word : {n : ℕ} → Width n → access n len (effectiveAddress x) ≡ Granted → InWord len (storing x n)
+  storing-in-word : {n : ℕ} → Width n → access n len (effectiveAddress x) ≡ option.none → InWord len (storing x n)
   storing-in-word {n} w g = record { wide = w; inside = granted-inside n len _ g; in-word = granted-in-word w len _ g }
 
   pub store-sound : {n : ℕ} → Width n → Sound len (store x len n)
@@ -106,7 +106,7 @@ module _ (len : ℕ) (x : Inputs) where
 
     pub raising-sums-sound : (f : Flagged) → Sound len (sumsOrRaises x f)
     unfolding sumsOrRaises
-    raising-sums-sound f = if-both (Sound len) (isSet OVE (x .sr) && eqb (f .overflow) 1) (raises-sound (x .d) (f .value) _ _ _ _ (omega arith)) (sums-sound f)
+    raising-sums-sound f = if-both (Sound len) (isSet OVE (x .sr) && eqb (f .overflow) 1) (raises-sound (x .d) (f .value) _ _ _ (omega arith)) (sums-sound f)
 
     pub load-sound : (mem : List ℕ) (n : ℕ) (sign : Bool) → Sound len (load x mem n sign)
     unfolding load

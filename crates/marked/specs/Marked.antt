@@ -1,19 +1,21 @@
 -- Document 01, "Marked examples at the edges", in its order.
 use mathlib.Core.Bool.{Bool, true, false, _&&_}
 use mathlib.Core.List.{List, [], _∷_}
+use mathlib.Core.Option.{Option, none, some}
 use Prim.Native.Nat.{ℕ, zero, suc, _+_, _^_}
 use lib.Dec.{eqb, ltb}
 use Rattle.bits.specs.Choice.{if_then_else_}
 use Rattle.bits.specs.Word.{field}
 use Rattle.isa.specs.InstructionSet.{decode}
 use Rattle.isa.specs.Encoding.{encode, number}
+use Rattle.isa.specs.Vectors.{vector}
+use Rattle.isa.specs.declared.vectors.Cause.{Cause}
+use Rattle.isa.specs.declared.vectors.Cause.the-variants.{Bus, Alignment}
 use Rattle.arith.specs.Sums.{sum, difference}
 use Rattle.arith.specs.Compare.{holds}
 use Rattle.arith.specs.Place.{least}
 use Rattle.arith.specs.Status.{DSX}
 use Rattle.memory.specs.Memory.{access}
-use Rattle.memory.specs.declared.Access.{Access}
-use Rattle.memory.specs.declared.Access.the-variants.{Granted, Misaligned, BusError}
 use Rattle.effect.specs.State.{stateWords, pcAt, srAt, epcrAt, eearAt, esrAt, modeAt, running}
 use Rattle.semantics.specs.Commit.{wordAt, put, statesAfter, memoryAfter, effectOf}
 
@@ -30,8 +32,8 @@ pub data Example : Type 0 where
   -- the compare of a code, of a against b
   compare-is : ℕ → ℕ → ℕ → Bool → Example
   ff1-is : ℕ → ℕ → Example
-  -- an access of n bytes in a memory of that length at an address
-  access-is : ℕ → ℕ → ℕ → Access → Example
+  -- an access of n bytes in a memory of that length at an address: the cause of the exception that it raises, if it raises one
+  access-is : ℕ → ℕ → ℕ → Option Cause → Example
   -- words executed one after the other on a memory of that many bytes, from reset at address 100 with r3 as given: then the word of the state at
   -- a place is that number
   run-leaves : ℕ → ℕ → List ℕ → ℕ → ℕ → Example
@@ -39,11 +41,10 @@ pub data Example : Type 0 where
 abbrev same : Bool → Bool → Bool
 same a b = if a then b else if b then false else true
 
--- the vector that an access raises; 0 if it works
-abbrev vector : Access → ℕ
-vector Granted = 0
-vector Misaligned = 0x600
-vector BusError = 0x200
+-- the vector of an exception, by which causes are told apart; 0 is none
+abbrev vectorOf : Option Cause → ℕ
+vectorOf none = 0
+vectorOf (some cause) = vector cause
 
 abbrev zeros : ℕ → List ℕ
 zeros zero = []
@@ -70,7 +71,7 @@ right (sum-flags a b cy ov) = eqb (sum a b 0 .carry) cy && eqb (sum a b 0 .overf
 right (difference-flags a b cy ov) = eqb (difference a b .carry) cy && eqb (difference a b .overflow) ov
 right (compare-is k a b t) = same (holds k a b) t
 right (ff1-is x n) = eqb (least 32 x) n
-right (access-is n len at a) = eqb (vector (access n len at)) (vector a)
+right (access-is n len at a) = eqb (vectorOf (access n len at)) (vectorOf a)
 right (run-leaves len r3 ws place v) = eqb (wordAt (executed (zeros len) (reset r3) ws) 0 place) v
 
 abbrev pub gts : ℕ
@@ -104,13 +105,13 @@ marked =
     compare-is gts 0x80000000 0x7fffffff false ∷  -- M9
     compare-is gtu 0x80000000 0x7fffffff true ∷
     ff1-is 0x80000000 32 ∷  -- M10
-    access-is 4 4096 4092 Granted ∷  -- M11
-    access-is 4 4096 4094 Misaligned ∷
-    access-is 4 4096 4096 BusError ∷
+    access-is 4 4096 4092 none ∷  -- M11
+    access-is 4 4096 4094 (some Alignment) ∷
+    access-is 4 4096 4096 (some Bus) ∷
     run-leaves 4096 4092 (lwz ∷ []) pcAt 0x104 ∷  -- M11 through the step
-    run-leaves 4096 4094 (lwz ∷ []) pcAt 0x600 ∷
+    run-leaves 4096 4094 (lwz ∷ []) pcAt (vector Alignment) ∷
     run-leaves 4096 4094 (lwz ∷ []) eearAt 4094 ∷
-    run-leaves 4096 4096 (lwz ∷ []) pcAt 0x200 ∷
+    run-leaves 4096 4096 (lwz ∷ []) pcAt (vector Bus) ∷
     run-leaves 4096 0 (untakenBranch ∷ illegalWord ∷ []) epcrAt 0x100 ∷  -- M12
     run-leaves 4096 0 (untakenBranch ∷ illegalWord ∷ []) srAt (0x8001 + 2 ^ DSX) ∷
     []

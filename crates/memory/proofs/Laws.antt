@@ -1,6 +1,7 @@
 -- What holds of loads, stores and the test of an access, each once for every width. Assumes nothing.
 use mathlib.Core.Bool.{Bool, true, false}
 use mathlib.Core.List.{List, [], _∷_}
+use mathlib.Core.Option.{Option, none, some}
 use mathlib.Core.Path.{_≡_, refl, sym, ap, ap₂, _∙_}
 use Prim.Native.Nat.{ℕ, zero, suc, _+_, _*_, _/_, _%_, _^_, _<_, _≤_}
 use native.Mathlib.Nat.{mod-lt, mod-one, pow-le-pow-right, pow-succ'}
@@ -13,9 +14,11 @@ use lib.Arith.{mod-mul, digits-lt}
 use lib.ListN.{length, getD, set, length-set}
 use lib.Seq.{getD-set-same, getD-set-other}
 use Rattle.bits.specs.Choice.{if_then_else_}
-use Rattle.memory.specs.Memory.{Width, byte-wide, half-wide, word-wide, loaded, stored, memoryWord, access}
+use Rattle.isa.specs.declared.vectors.Cause.{Cause}
+use Rattle.isa.specs.declared.vectors.Cause.the-variants.{Bus, Alignment}
+use Rattle.memory.specs.Memory.{Width, byte-wide, half-wide, word-wide, loaded, stored, memoryWord, access, causeOf}
 use Rattle.memory.specs.declared.Access.{Access}
-use Rattle.memory.specs.declared.Access.the-variants.{Granted, Misaligned, BusError}
+use Rattle.memory.specs.declared.Access.the-variants.{Granted, Fault}
 use Rattle.memory.proofs.Access.{the-type}
 
 -- the list of a slice of u8 is so
@@ -120,51 +123,41 @@ aligned-in-word word-wide at h = omega arith
 
 -- ---- the test, case by case
 
-pub misaligned : (n len at : ℕ) → 0 < at % n → access n len at ≡ Misaligned
+pub misaligned : (n len at : ℕ) → 0 < at % n → access n len at ≡ some Alignment
 unfolding access
 misaligned n len at h = simp (lt-ltb _ _ h)
 
-pub bus-error : (n len at : ℕ) → at % n ≡ 0 → len < at + n → access n len at ≡ BusError
+pub bus-error : (n len at : ℕ) → at % n ≡ 0 → len < at + n → access n len at ≡ some Bus
 unfolding access
 bus-error n len at h i = let a : at % n ≤ 0 = omega arith in simp (le-ltb _ _ a, lt-ltb _ _ i)
 
-pub granted : (n len at : ℕ) → at % n ≡ 0 → at + n ≤ len → access n len at ≡ Granted
+pub granted : (n len at : ℕ) → at % n ≡ 0 → at + n ≤ len → access n len at ≡ none
 unfolding access
 granted n len at h i = let a : at % n ≤ 0 = omega arith in simp (le-ltb _ _ a, le-ltb _ _ i)
 
 -- only an access that passes both tests is granted
-both : (a b : Bool) → (if a then Misaligned else (if b then BusError else Granted)) ≡ Granted → (a ≡ false) × (b ≡ false)
+both : (a b : Bool) → _≡_ {A = Option Cause} (if a then some Alignment else (if b then some Bus else none)) none → (a ≡ false) × (b ≡ false)
 both true b e = absurd (let z : _≡_ {A = ℕ} 0 1 = cc in omega arith)
 both false true e = absurd (let z : _≡_ {A = ℕ} 0 1 = cc in omega arith)
 both false false e = (refl, refl)
 
-passed : (n len at : ℕ) → access n len at ≡ Granted → (at % n ≤ 0) × (at + n ≤ len)
+passed : (n len at : ℕ) → access n len at ≡ none → (at % n ≤ 0) × (at + n ≤ len)
 unfolding access
 passed n len at e =
     let h = both (ltb 0 (at % n)) (ltb len (at + n)) e in
     (ltb-false 0 (at % n) (h .0), ltb-false len (at + n) (h .1))
 
-pub granted-aligned : (n len at : ℕ) → access n len at ≡ Granted → at % n ≡ 0
+pub granted-aligned : (n len at : ℕ) → access n len at ≡ none → at % n ≡ 0
 granted-aligned n len at e = let h : at % n ≤ 0 = passed n len at e .0 in omega arith
 
-pub granted-inside : (n len at : ℕ) → access n len at ≡ Granted → at + n ≤ len
+pub granted-inside : (n len at : ℕ) → access n len at ≡ none → at + n ≤ len
 granted-inside n len at e = passed n len at e .1
 
-pub granted-in-word : {n : ℕ} → Width n → (len at : ℕ) → access n len at ≡ Granted → at % 4 + n ≤ 4
+pub granted-in-word : {n : ℕ} → Width n → (len at : ℕ) → access n len at ≡ none → at % 4 + n ≤ 4
 granted-in-word {n} w len at e = aligned-in-word w at (granted-aligned n len at e)
 
 -- ---- the answer in an arm of a `match`, which knows its tag
 
-of-tag : ℕ → Access
-of-tag zero = Granted
-of-tag (suc zero) = Misaligned
-of-tag (suc (suc n)) = BusError
-
-back : (a : Access) → of-tag (tagOf the-type a) ≡ a
-unfolding of-tag
-back Granted = refl
-back Misaligned = refl
-back BusError = refl
-
-pub same-tag : (a b : Access) → tagOf the-type a ≡ tagOf the-type b → a ≡ b
-same-tag a b e = sym (back a) ∙ ap of-tag e ∙ back b
+pub granted-tag : (a : Access) → tagOf the-type a ≡ 0 → causeOf a ≡ none
+granted-tag Granted h = refl
+granted-tag (Fault cause) h = absurd (omega (arith, h))

@@ -1,11 +1,14 @@
 -- Memory is a list of bytes, the first at address 0. An access is to the n bytes from the address `at` on.
 use mathlib.Core.List.{List}
+use mathlib.Core.Option.{Option, none, some}
 use Prim.Native.Nat.{ℕ, zero, suc, _+_, _*_, _/_, _%_, _^_}
 use lib.ListN.{getD, set}
 use lib.Dec.{ltb}
 use Rattle.bits.specs.Choice.{if_then_else_}
+use Rattle.isa.specs.declared.vectors.Cause.{Cause}
+use Rattle.isa.specs.declared.vectors.Cause.the-variants.{Bus, Alignment}
 use Rattle.memory.specs.declared.Access.{Access}
-use Rattle.memory.specs.declared.Access.the-variants.{Granted, Misaligned, BusError}
+use Rattle.memory.specs.declared.Access.the-variants.{Granted, Fault}
 
 -- the widths of an access. One instruction: "words 4, halves 2"; a byte is 1
 pub data Width : ℕ → Type 0 where
@@ -28,9 +31,15 @@ stored (suc n) mem at v = set (stored n mem (at + 1) v) at (v / 256 ^ n % 256)
 abbrev pub memoryWord : List ℕ → ℕ → ℕ
 memoryWord mem k = loaded 4 mem (4 * k)
 
--- One instruction: "Loads, stores and p.*: alignment first (words 4, halves 2), then bus error if any byte is outside."
--- Memory has len bytes. The sum is exact: an access past the highest address does not go on at address 0
-unfoldable pub access : ℕ → ℕ → ℕ → Access
+-- One instruction: "Loads, stores and p.*: alignment first (words 4, halves 2), then bus error if any byte is outside." The cause of the
+-- exception that an access raises, if it raises one; its vector is isa's. Memory has len bytes. The sum is exact: an access past the highest
+-- address does not go on at address 0
+unfoldable pub access : ℕ → ℕ → ℕ → Option Cause
 access n len at =
-    if ltb 0 (at % n) then Misaligned else
-    (if ltb len (at + n) then BusError else Granted)
+    if ltb 0 (at % n) then some Alignment else
+    (if ltb len (at + n) then some Bus else none)
+
+-- the same of the code's answer
+abbrev pub causeOf : Access → Option Cause
+causeOf Granted = none
+causeOf (Fault cause) = some cause

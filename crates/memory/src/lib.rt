@@ -3,25 +3,25 @@ ghost use mathlib.Core.Path.{_≡_};
 ghost use Prim.Native.Nat.{_+_, _*_, _<_, _≤_, _^_, _%_};
 ghost use lib.ListN.{length};
 ghost use Rattle.bits.specs.Word.{extend};
-ghost use Rattle.memory.specs.Memory.{Width, loaded, stored, access};
+ghost use Rattle.memory.specs.Memory.{Width, loaded, stored, causeOf, access};
+use isa::vectors::Cause;
 
-// What the test of an access says: it may go on, or it raises alignment or bus error.
+// What the test of an access says: it may go on, or it raises an exception.
 pub enum Access {
     Granted,
-    Misaligned,
-    BusError,
+    Fault(Cause),
 }
 
 // The test that comes before every access, in a memory of len bytes.
 pub fn test(len: usize, address: u32, width: u32) -> Access
     requires { ⌜ Width width ⌝ }
-    ensures { λ r. ⌜ r ≡ access width len address ⌝ }
+    ensures { λ r. ⌜ causeOf r ≡ access width len address ⌝ }
 {
     if address & (width - 1) != 0 {
-        return Access::Misaligned;
+        return Access::Fault(Cause::Alignment);
     }
     if len < address as usize + width as usize {
-        return Access::BusError;
+        return Access::Fault(Cause::Bus);
     }
     Access::Granted
 }

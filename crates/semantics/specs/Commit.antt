@@ -8,6 +8,7 @@ use lib.ListN.{length, getD, set}
 use Rattle.bits.specs.Choice.{if_then_else_}
 use Rattle.isa.specs.Entry.{kindOfEntry, fieldsOf}
 use Rattle.isa.specs.declared.entry.Fields.{Fields}
+use Rattle.isa.specs.Vectors.{vector}
 use Rattle.isa.specs.declared.vectors.Cause.the-variants.{Bus}
 use Rattle.memory.specs.Memory.{stored}
 use Rattle.effect.specs.State.{stateWords, pcAt, delayAt, targetAt, srAt, epcrAt, eearAt, esrAt, linkAt, linkAddressAt, modeAt}
@@ -59,10 +60,11 @@ unfoldable pub putStatus : List ℕ → ℕ → Effect → List ℕ
 putStatus s core e =
     put (put (put (put s core srAt (e .sr)) core linkAt (e .link .held)) core linkAddressAt (e .link .address)) core modeAt (e .mode)
 
--- an exception leaves EPCR, EEAR and ESR too
+-- an exception goes to its vector and leaves EPCR, EEAR and ESR too
 unfoldable pub putException : Outcome → List ℕ → ℕ → List ℕ
 putException Completed s core = s
-putException (Raised x) s core = put (put (put s core epcrAt (x .epcr)) core eearAt (x .eear)) core esrAt (x .esr)
+putException (Raised x) s core =
+    put (put (put (put s core pcAt (vector (x .cause))) core epcrAt (x .epcr)) core eearAt (x .eear)) core esrAt (x .esr)
 
 -- "An exception adds 1 to raised."
 abbrev pub raisedBy : Outcome → ℕ

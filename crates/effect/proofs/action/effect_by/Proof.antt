@@ -37,17 +37,11 @@ overflowed-requires c κs = search needs
 enum-told : tie.Need-enum-told
 enum-told c = search needs
 
-called-requires : tie.Need-called-requires
-called-requires c κs = search needs
-
-enum-told-2 : tie.Need-enum-told-2
-enum-told-2 c = search needs
-
 returned-requires : tie.Need-returned-requires
 returned-requires c κs = search needs
 
-enum-told-3 : tie.Need-enum-told-3
-enum-told-3 c = search needs
+enum-told-2 : tie.Need-enum-told-2
+enum-told-2 c = search needs
 
 halted-requires : tie.Need-halted-requires
 halted-requires c κs = search needs
@@ -64,8 +58,8 @@ enum-known-action-7 c = search needs
 store-conditional-effect-requires : tie.Need-store-conditional-effect-requires
 store-conditional-effect-requires c κs = search needs
 
-enum-told-4 : tie.Need-enum-told-4
-enum-told-4 c = search needs
+enum-told-3 : tie.Need-enum-told-3
+enum-told-3 c = search needs
 
 no-store-requires : tie.Need-no-store-requires
 no-store-requires c κs = search needs
@@ -95,27 +89,23 @@ returns-5 c = (c .overflowed .ensures) ∙ sym (ap (effectBy (c .before .before 
 
 returns-6 : tie.Need-returns-6
 unfolding effectBy
-returns-6 c = (c .called .ensures) ∙ sym (ap (effectBy (c .before .before .before .args .x)) (c .before .enum-told .given .1))
+returns-6 c = (c .returned .ensures) ∙ sym (ap (effectBy (c .before .before .before .args .x)) (c .before .enum-told .given .1))
 
 returns-7 : tie.Need-returns-7
 unfolding effectBy
-returns-7 c = (c .returned .ensures) ∙ sym (ap (effectBy (c .before .before .before .args .x)) (c .before .enum-told2 .given .1))
+returns-7 c = (c .halted .ensures) ∙ sym (ap (effectBy (c .before .before .before .args .x)) (c .before .enum-told2 .given .1))
 
 returns-8 : tie.Need-returns-8
 unfolding effectBy
-returns-8 c = (c .halted .ensures) ∙ sym (ap (effectBy (c .before .before .before .args .x)) (c .before .enum-told3 .given .1))
+returns-8 c = (c .load-linked-effect .ensures) ∙ sym (ap (effectBy (c .before .before .before .before .args .x)) (c .before .before .action6 .given .1))
 
 returns-9 : tie.Need-returns-9
 unfolding effectBy
-returns-9 c = (c .load-linked-effect .ensures) ∙ sym (ap (effectBy (c .before .before .before .before .args .x)) (c .before .before .action6 .given .1))
+returns-9 c = (c .store-conditional-effect .ensures) ∙ sym (ap (effectBy (c .before .before .before .before .args .x)) (c .before .before .action7 .given .1))
 
 returns-10 : tie.Need-returns-10
 unfolding effectBy
-returns-10 c = (c .store-conditional-effect .ensures) ∙ sym (ap (effectBy (c .before .before .before .before .args .x)) (c .before .before .action7 .given .1))
-
-returns-11 : tie.Need-returns-11
-unfolding effectBy
-returns-11 c = (simp (c .store-conditional-effect2 .ensures, c .before .no-store .ensures)) ∙ sym (ap (effectBy (c .before .before .before .before .args .x)) (c .before .before .enum-told4 .given .1))
+returns-10 c = (simp (c .store-conditional-effect2 .ensures, c .before .no-store .ensures)) ∙ sym (ap (effectBy (c .before .before .before .before .args .x)) (c .before .before .enum-told3 .given .1))
 
 pub effect-by-spec : {M : Type 1} → statement M
 effect-by-spec =
@@ -132,16 +122,14 @@ effect-by-spec =
     enum-known-action-5
     overflowed-requires
     enum-told
-    called-requires
-    enum-told-2
     returned-requires
-    enum-told-3
+    enum-told-2
     halted-requires
     enum-known-action-6
     load-linked-effect-requires
     enum-known-action-7
     store-conditional-effect-requires
-    enum-told-4
+    enum-told-3
     no-store-requires
     store-conditional-effect-requires-2
     returns
@@ -153,5 +141,4 @@ effect-by-spec =
     returns-7
     returns-8
     returns-9
-    returns-10
-    returns-11)
+    returns-10)

@@ -1,6 +1,5 @@
 use mathlib.Core.Path.{sym, _∙_}
 use Rattle.effect.specs.Effect.{syscall}
-use Rattle.effect.specs.Action.{effectBy}
 use borrow.Author.Needs.{needs}
 use Rattle.effect.proofs.raised.syscall.Statement.{statement}
 use Rattle.effect.proofs.raised.syscall.Tie as tie
@@ -15,9 +14,12 @@ returns : tie.Need-returns
 unfolding syscall
 returns c = simp (c .illegal .ensures, sym (c .before .before .in-slot .ensures) ∙ c .before .if1 .taken)
 
+fault-requires : tie.Need-fault-requires
+fault-requires c κs = search needs
+
 returns-2 : tie.Need-returns-2
-unfolding syscall effectBy
-returns-2 c = simp (sym (c .before .in-slot .ensures) ∙ c .if1 .left)
+unfolding syscall
+returns-2 c = simp (c .fault .ensures, sym (c .before .before .in-slot .ensures) ∙ c .before .if1 .left)
 
 pub syscall-spec : {M : Type 1} → statement M
 syscall-spec =
@@ -26,4 +28,5 @@ syscall-spec =
     in-slot-requires
     illegal-requires
     returns
+    fault-requires
     returns-2)
