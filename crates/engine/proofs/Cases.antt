@@ -1,7 +1,7 @@
 -- One schedule entry, case by case, as its code goes. Assumes nothing.
 use mathlib.Core.Bool.{Bool, true, false}
 use mathlib.Core.List.{List}
-use mathlib.Core.Path.{_≡_, refl, sym, ap, _∙_}
+use mathlib.Core.Path.{_≡_, refl, sym, ap, ap₂, _∙_}
 use Prim.Native.Nat.{ℕ, _+_, _/_, _%_, _<_, _≤_, zero-le}
 use native.Mathlib.Nat.{le-refl}
 use native.Mathlib.Omega.{arith}
@@ -10,39 +10,38 @@ use lib.ListN.{length, getD, set}
 use lib.Seq.{set-getD}
 use borrow.Author.Tests.{eq-eqb, ne-eqb, le-leb, lt-leb, leb-true, leb-false}
 use Rattle.bits.specs.Choice.{if_then_else_}
-use Rattle.isa.specs.InstructionSet.{decode}
-use Rattle.memory.specs.Memory.{memoryWord}
 use Rattle.effect.specs.State.{pcAt, modeAt, running}
 use Rattle.effect.specs.declared.types.Board.{Board}
-use Rattle.effect.specs.declared.types.Effect.{Effect}
+use Rattle.effect.specs.Effect.{noStore}
 use Rattle.effect.specs.declared.types.Outcome.{Outcome}
-use Rattle.effect.specs.declared.types.Outcome.the-variants.{Completed, Raised}
-use Rattle.semantics.specs.Commit.{wordAt, effectOf, fetchFault, raisedBy}
-use Rattle.exec.specs.Report.{Executed}
+use Rattle.semantics.specs.Commit.{wordAt, effectOf, fetchFault}
+use Rattle.lawful.proofs.Cases.{if-both}
+use Rattle.exec.specs.Report.{tells, Executed}
 use Rattle.exec.specs.declared.Done.{Done}
-use Rattle.engine.specs.Plain.{fetched, formAt, plainAfter}
-use Rattle.engine.specs.Fast.{filled, cachedForm, emptied, fastFetch, fastFault, fastStep}
+use Rattle.engine.specs.Plain.{isRunning, isInside, fetched, formAt, plainAfter}
+use Rattle.engine.specs.Fast.{filled, cachedForm, emptied, fastFetch, fastFault, fastStep, turnOf}
 use Rattle.engine.specs.Answer.{AtMost}
-use Rattle.engine.specs.Invariant.{fastOf, countsAfter, Grown, Backed, fetchedOf, fetchAt, cacheAfter}
+use Rattle.engine.specs.Invariant.{ReusedOnce, Grown, Backed, fetchedOf, fetchAt, cacheAfter, Stepped}
 use Rattle.engine.specs.declared.answer.Counts.{Counts}
 use Rattle.engine.specs.declared.steps.Fetched.{Fetched}
+use Rattle.engine.specs.declared.steps.Turn.the-variants.{Idle, FetchFault, Instruction}
 use Rattle.engine.proofs.Agree.{filled-inside, form-found}
 
 -- ---- counts
 
-raised-by-le : (o : Outcome) → raisedBy o ≤ 1
-raised-by-le Completed = zero-le
-raised-by-le (Raised x) = le-refl 1
-
-pub raised-le : {mem s mem′ s′ : List ℕ} {core : ℕ} {e : Effect} {r : Done} → Executed mem s core e mem′ s′ r → r .raised ≤ 1
-raised-le {e = e} x = rw (x .done) (raised-by-le (e .outcome))
-
-pub filled-le : (entry : ℕ) → filled entry ≤ 1
+filled-le : (entry : ℕ) → filled entry ≤ 1
 filled-le entry = go (eqb entry 0)
   where
     go : (b : Bool) → (if b then 0 else 1) ≤ 1
     go true = zero-le
     go false = le-refl 1
+
+-- what the step hands up
+pub turn-once : (board : Board) (mem s c : List ℕ) (core : ℕ) → ReusedOnce (turnOf board mem s c core)
+unfolding turnOf
+turn-once board mem s c core =
+    if-both ReusedOnce (isRunning s core)
+    (if-both ReusedOnce (isInside mem s core) (filled-le (getD c (fetched s core) 0)) tt) tt
 
 pub not-grown : (n : Counts) → Grown n n
 not-grown n = record { executed-le = omega arith; raised-le = omega arith; reused-le = omega arith }
@@ -60,20 +59,19 @@ module _ (mem c : List ℕ) (k : ℕ) {old : ℕ} (q : old ≡ getD c k 0) where
     pub filled-kept : c ≡ set c k (cachedForm mem c k)
     filled-kept = rw filled-there (sym (set-getD c k 0))
 
-    pub filled-fetched : record { entry = old; reused = 1 } ≡ fetchedOf mem c k
-    filled-fetched = rw (filled-there, q)
+    pub filled-found : filled (getD c k 0) ≡ 1
+    filled-found = rw filled-there
 
-  module _ (h : old ≡ 0) {entry : ℕ} (e : entry ≡ decode (memoryWord mem k)) where
-    empty-there : eqb (getD c k 0) 0 ≡ true
-    empty-there = eq-eqb (getD c k 0) 0 (sym q ∙ h)
+  pub empty-found : old ≡ 0 → filled (getD c k 0) ≡ 0
+  empty-found h = rw (eq-eqb (getD c k 0) 0 (sym q ∙ h))
 
-    pub empty-filled : set c k entry ≡ set c k (cachedForm mem c k)
-    unfolding formAt
-    empty-filled = rw (empty-there, e)
+  -- the form that the code makes of the entry is the one that is executed
+  module _ {entry : ℕ} (e : entry ≡ (if eqb old 0 then formAt mem k else old)) where
+    pub form-executed : entry ≡ cachedForm mem c k
+    form-executed = e ∙ ap (λ (n : ℕ). if eqb n 0 then formAt mem k else n) q
 
-    pub empty-fetched : record { entry = entry; reused = 0 } ≡ fetchedOf mem c k
-    unfolding formAt
-    empty-fetched = rw (empty-there, e)
+    pub form-fetched : {u : ℕ} → filled (getD c k 0) ≡ u → record { entry = entry; reused = u } ≡ fetchedOf mem c k
+    form-fetched h = ap₂ (λ (n u : ℕ). record { entry = n; reused = u }) form-executed (sym h)
 
 -- a fetch at pc: inside memory, or outside
 module _ (mem c : List ℕ) (pc : ℕ) where
@@ -115,24 +113,30 @@ module _ (mem c : List ℕ) (pc : ℕ) where
 
 -- ---- an entry
 
-module _ (board : Board) (mem s c : List ℕ) (core : ℕ) (n : Counts) where
-  pub fast-idle : (wordAt s core modeAt ≡ running → ⊥) → fastOf mem s c n ≡ fastStep board (fastOf mem s c n) core
-  unfolding fastStep
-  fast-idle h = rw (ne-eqb _ _ h)
+module _ (board : Board) (mem s c : List ℕ) (core : ℕ) where
+  pub fast-idle : (wordAt s core modeAt ≡ running → ⊥) → Stepped board mem s c core mem s c Idle
+  unfolding fastStep turnOf
+  fast-idle h = record { turn = rw (ne-eqb _ _ h); left = λ n. rw (ne-eqb _ _ h) }
 
-  pub fast-outside : {mem′ s′ : List ℕ} {r : Done} {n′ : Counts} → n′ ≡ countsAfter n (r .raised) 0 → wordAt s core modeAt ≡ running
-      → length mem < wordAt s core pcAt + 4 → Executed mem s core (fetchFault s core) mem′ s′ r
-      → fastOf mem′ s′ c n′ ≡ fastStep board (fastOf mem s c n) core
-  unfolding fastStep fastFault plainAfter
-  fast-outside q h g x =
-      let z : n .reused + 0 ≡ n .reused = omega arith in
-      rw (eq-eqb _ _ h, lt-leb _ _ g, q, x .memory, x .states, x .done, z)
+  pub fast-outside : {mem′ s′ : List ℕ} {o : Outcome} → wordAt s core modeAt ≡ running → length mem < wordAt s core pcAt + 4
+      → Executed mem s core (fetchFault s core) mem′ s′ (tells o noStore) → Stepped board mem s c core mem′ s′ c (FetchFault o)
+  unfolding fastStep fastFault plainAfter turnOf
+  fast-outside {mem′} {s′} {o} h g x =
+      let q : o ≡ fetchFault s core .outcome = ap (λ (d : Done). d .outcome) (x .done) in
+      record {
+        turn = rw (eq-eqb _ _ h, lt-leb _ _ g, q);
+        left = λ n. rw (eq-eqb _ _ h, lt-leb _ _ g, q, x .memory, x .states);
+      }
 
   -- the cache after the fetch of word k, and after its instruction
-  pub fast-inside : {k : ℕ} (c′ : List ℕ) {mem′ s′ c″ : List ℕ} {r : Done} {n′ : Counts} → k ≡ fetched s core
+  pub fast-inside : {k : ℕ} (c′ : List ℕ) {mem′ s′ c″ : List ℕ} {r : Done} {u : ℕ} → k ≡ fetched s core
       → wordAt s core modeAt ≡ running → wordAt s core pcAt + 4 ≤ length mem
       → c′ ≡ set c k (cachedForm mem c k) → Executed mem s core (effectOf board mem s core (cachedForm mem c k)) mem′ s′ r
-      → c″ ≡ (if r .stored then set c′ (r .address / 4) 0 else c′) → n′ ≡ countsAfter n (r .raised) (filled (getD c k 0))
-      → fastOf mem′ s′ c″ n′ ≡ fastStep board (fastOf mem s c n) core
-  unfolding fastStep fastFetch plainAfter emptied
-  fast-inside c′ w h g p x t q = rw (eq-eqb _ _ h, le-leb _ _ g, t, p, q, x .memory, x .states, x .done, w)
+      → c″ ≡ (if r .stored then set c′ (r .address / 4) 0 else c′) → u ≡ filled (getD c k 0)
+      → Stepped board mem s c core mem′ s′ c″ (Instruction (r .outcome) u)
+  unfolding fastStep fastFetch plainAfter emptied turnOf
+  fast-inside c′ w h g p x t q =
+      record {
+        turn = rw (eq-eqb _ _ h, le-leb _ _ g, q, x .done, w);
+        left = λ n. rw (eq-eqb _ _ h, le-leb _ _ g, t, p, q, x .memory, x .states, x .done, w);
+      }

@@ -7,8 +7,11 @@ use lib.ListN.{getD, set}
 use Rattle.bits.specs.Choice.{if_then_else_}
 use Rattle.effect.specs.declared.types.Board.{Board}
 use Rattle.effect.specs.declared.types.Effect.{Effect}
-use Rattle.semantics.specs.Commit.{effectOf, fetchFault, stores, touched}
+use Rattle.semantics.specs.Commit.{effectOf, fetchFault, stores, touched, raisedBy}
 use Rattle.engine.specs.Plain.{Plain, isRunning, isInside, fetched, formAt, plainAfter}
+use Rattle.engine.specs.declared.answer.Counts.{Counts}
+use Rattle.engine.specs.declared.steps.Turn.{Turn}
+use Rattle.engine.specs.declared.steps.Turn.the-variants.{Idle, FetchFault, Instruction}
 
 -- what a fast run has come to: what a plain run has, the decode cache, and the count of fetches that found their entry filled
 pub record Fast : Type 0 where
@@ -49,6 +52,21 @@ fastStep board x core =
     if isRunning s core then
     (if isInside mem s core then fastFetch x core k (effectOf board mem s core (cachedForm mem (x .cache) k)) else fastFault x core) else
     x
+
+-- "A step ends in a completed instruction or in one exception": what the entry of a core hands up to the run, and what the run makes of it
+unfoldable pub turnOf : Board → List ℕ → List ℕ → List ℕ → ℕ → Turn
+turnOf board mem s cache core =
+    let k = fetched s core in
+    if isRunning s core then
+    (if isInside mem s core then Instruction (effectOf board mem s core (cachedForm mem cache k) .outcome) (filled (getD cache k 0)) else
+    FetchFault (fetchFault s core .outcome)) else
+    Idle
+
+-- "executed (entries of running cores), raised (those that took an exception), reused"
+abbrev pub countsAfter : Counts → Turn → Counts
+countsAfter n Idle = n
+countsAfter n (FetchFault o) = record { executed = n .executed + 1; raised = n .raised + raisedBy o; reused = n .reused }
+countsAfter n (Instruction o u) = record { executed = n .executed + 1; raised = n .raised + raisedBy o; reused = n .reused + u }
 
 -- "The schedule's entries go in order, each on what the last left."
 unfoldable pub fastFrom : Board → List ℕ → Fast → Fast

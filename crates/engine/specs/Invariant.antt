@@ -7,17 +7,17 @@ use lib.Dec.{eqb, leb}
 use lib.ListN.{length, getD, set}
 use Rattle.bits.specs.Choice.{if_then_else_}
 use Rattle.effect.specs.State.{halted, running}
+use Rattle.effect.specs.declared.types.Board.{Board}
 use Rattle.semantics.specs.Commit.{coreCount}
 use Rattle.lawful.specs.Accepted.{AllAccepted}
 use Rattle.engine.specs.Plain.{formAt}
-use Rattle.engine.specs.Fast.{Fast, filled, cachedForm}
+use Rattle.engine.specs.Fast.{Fast, filled, cachedForm, fastStep, turnOf, countsAfter}
 use Rattle.engine.specs.History.{History, cachedAtFirst}
-use Rattle.engine.specs.Refusal.{refusalNumber}
 use Rattle.engine.specs.Answer.{plainOf}
 use Rattle.engine.specs.declared.answer.Counts.{Counts}
-use Rattle.engine.specs.declared.answer.Verdict.{Verdict}
-use Rattle.engine.specs.declared.answer.Verdict.the-variants.{Accepted, Refused}
 use Rattle.engine.specs.declared.steps.Fetched.{Fetched}
+use Rattle.engine.specs.declared.steps.Turn.{Turn}
+use Rattle.engine.specs.declared.steps.Turn.the-variants.{Idle, FetchFault, Instruction}
 
 -- ---- what is lent and the counts, as what a run has come to
 
@@ -30,9 +30,11 @@ historyOf x = record { cached = cachedAtFirst (x .cache); reused = x .reused }
 
 -- ---- counts
 
--- after one more instruction
-abbrev pub countsAfter : Counts → ℕ → ℕ → Counts
-countsAfter n r u = record { executed = n .executed + 1; raised = n .raised + r; reused = n .reused + u }
+-- a fetch is reused once at most
+abbrev pub ReusedOnce : Turn → Type 0
+ReusedOnce Idle = Unit
+ReusedOnce (FetchFault o) = Unit
+ReusedOnce (Instruction o u) = u ≤ 1
 
 -- an entry adds at most 1 to each
 pub record Grown (n n′ : Counts) : Type 0 where
@@ -70,12 +72,12 @@ fetchAt mem cache pc = if leb (pc + 4) (length mem) then fetchedOf mem cache (pc
 abbrev pub cacheAfter : List ℕ → List ℕ → ℕ → List ℕ
 cacheAfter mem cache pc = if leb (pc + 4) (length mem) then set cache (pc / 4) (cachedForm mem cache (pc / 4)) else cache
 
--- ---- the tests
+-- the entry of a core turned what is lent into mem′, s′ and cache′, whatever the counts are, and hands up r
+pub record Stepped (board : Board) (mem s cache : List ℕ) (core : ℕ) (mem′ s′ cache′ : List ℕ) (r : Turn) : Type 0 where
+  pub turn : r ≡ turnOf board mem s cache core
+  pub left : (n : Counts) → fastOf mem′ s′ cache′ (countsAfter n r) ≡ fastStep board (fastOf mem s cache n) core
 
--- a verdict's number among the refusals; 0 is none
-abbrev pub verdictNumber : Verdict → ℕ
-verdictNumber Accepted = 0
-verdictNumber (Refused cause) = refusalNumber cause
+-- ---- the tests
 
 -- two of the rules on a state
 abbrev pub unsetIsZero : ℕ → ℕ → Bool

@@ -9,6 +9,8 @@ use Rattle.effect.specs.State.{stateWords}
 use Rattle.semantics.specs.Commit.{coreCount}
 use Rattle.lawful.specs.Accepted.{accepted}
 use Rattle.engine.specs.Plain.{formAt}
+use Rattle.engine.specs.declared.answer.Verdict.{Verdict}
+use Rattle.engine.specs.declared.answer.Verdict.the-variants.{Accepted, Refused}
 use Rattle.engine.specs.declared.answer.Refusal.{Refusal}
 use Rattle.engine.specs.declared.answer.Refusal.the-variants.{MemoryLength, StatesLength, StateRule, ScheduleLength, NoSuchCore, CacheLength, CacheEntry}
 
@@ -85,3 +87,8 @@ refusalNumber ScheduleLength = 4
 refusalNumber NoSuchCore = 5
 refusalNumber CacheLength = 6
 refusalNumber CacheEntry = 7
+
+-- a verdict's number among the refusals; 0 is none
+abbrev pub verdictNumber : Verdict → ℕ
+verdictNumber Accepted = 0
+verdictNumber (Refused cause) = refusalNumber cause

@@ -1,18 +1,30 @@
 // One loop for both runs: the entries of a schedule, with a decode cache that may be empty. A word outside the cache is decoded each time.
 ghost use mathlib.Core.Path.{_≡_};
 ghost use Prim.Native.Nat.{_+_, _*_, _/_, _%_, _^_, _≤_, _<_};
+ghost use lib.Dec.{eqb};
 ghost use lib.ListN.{length, getD, set};
 ghost use Rattle.bits.specs.Choice.{if_then_else_};
 ghost use Rattle.effect.specs.State.{pcAt};
-ghost use Rattle.semantics.specs.Commit.{wordAt};
-ghost use Rattle.engine.specs.Plain.{boardOf};
-ghost use Rattle.engine.specs.Fast.{fastStep, fastFrom};
+ghost use Rattle.semantics.specs.Commit.{wordAt, raisedBy};
+ghost use Rattle.engine.specs.Plain.{formAt, boardOf};
+ghost use Rattle.engine.specs.Fast.{countsAfter, fastFrom};
 ghost use Rattle.engine.specs.Answer.{noCounts, AtMost};
-ghost use Rattle.engine.specs.Invariant.{fastOf, countsAfter, Grown, Backed, Runnable, fetchAt, cacheAfter};
+ghost use Rattle.engine.specs.Invariant.{fastOf, ReusedOnce, Grown, Backed, Runnable, fetchAt, cacheAfter, Stepped};
 use crate::answer::Counts;
 use effect::state;
 use effect::types::Board;
+use effect::types::Outcome;
 use exec::Done;
+
+// What an entry of the schedule comes to.
+pub enum Turn {
+    // Its core is not running.
+    Idle,
+    // Its fetch is outside memory: how the step ends.
+    FetchFault(Outcome),
+    // A word is fetched: how its instruction ends, and 1 if its entry was filled.
+    Instruction(Outcome, u32),
+}
 
 // The form that a fetch executes, or 0 if it is outside memory; and 1 if its entry was filled.
 pub struct Fetched {
@@ -39,6 +51,17 @@ fn put_entry(cache: &mut [u64], k: usize, entry: u64)
     }
 }
 
+// The form of word k that is executed: its entry as it stands, or, where that is empty, its word's form.
+fn form(memory: &[u8], k: usize, entry: u64) -> u64
+    requires { ⌜ 4 * k + 4 ≤ length (now memory) ⌝ }
+    ensures { λ r. ⌜ r ≡ (if eqb entry 0 then formAt (now (memory .entry)) k else entry) ⌝ }
+{
+    if entry != 0 {
+        return entry;
+    }
+    isa::decoder::decode(memory::load_word(memory, 4 * k))
+}
+
 // The form of the word at pc: its entry, which is filled if it was empty; or 0 if the word is outside memory. A filled entry is of a word inside.
 fn fetch(memory: &[u8], cache: &mut [u64], pc: usize) -> Fetched
     requires { ⌜ Backed (now cache) (now memory) ⌝ }
@@ -49,7 +72,7 @@ fn fetch(memory: &[u8], cache: &mut [u64], pc: usize) -> Fetched
     let old = entry_of(cache, k);
     if old != 0 {
         return Fetched {
-            entry: old,
+            entry: form(memory, k, old),
             reused: 1,
         };
     }
@@ -59,7 +82,7 @@ fn fetch(memory: &[u8], cache: &mut [u64], pc: usize) -> Fetched
             reused: 0,
         };
     }
-    let entry = isa::decoder::decode(memory::load_word(memory, 4 * k));
+    let entry = form(memory, k, old);
     put_entry(cache, k, entry);
     Fetched { entry, reused: 0 }
 }
@@ -73,48 +96,64 @@ fn empty_touched(cache: &mut [u64], done: Done)
     }
 }
 
-// The counts after one more instruction.
-fn counted(counts: Counts, raised: u32, reused: u32) -> Counts
-    requires { ⌜ AtMost 65535 counts ⌝ }
-    requires { ⌜ (raised ≤ 1) × (reused ≤ 1) ⌝ }
-    ensures { λ r. ⌜ (r ≡ countsAfter counts raised reused) × Grown counts r ⌝ }
+// How many exceptions an outcome is.
+fn raised_by(outcome: Outcome) -> u32
+    ensures { λ r. ⌜ (r ≡ raisedBy outcome) × (r ≤ 1) ⌝ }
 {
-    Counts {
-        executed: counts.executed + 1,
-        raised: counts.raised + raised,
-        reused: counts.reused + reused,
+    match outcome {
+        Outcome::Completed => 0,
+        Outcome::Raised(_) => 1,
     }
 }
 
-// One entry of the schedule. A filled entry of the cache is executed as it stands, whatever word memory holds there.
+// The counts after one more entry of the schedule.
+fn counted(counts: Counts, turn: Turn) -> Counts
+    requires { ⌜ AtMost 65535 counts ⌝ }
+    requires { ⌜ ReusedOnce turn ⌝ }
+    ensures { λ r. ⌜ (r ≡ countsAfter counts turn) × Grown counts r ⌝ }
+{
+    match turn {
+        Turn::Idle => counts,
+        Turn::FetchFault(outcome) => Counts {
+            executed: counts.executed + 1,
+            raised: counts.raised + raised_by(outcome),
+            reused: counts.reused,
+        },
+        Turn::Instruction(outcome, reused) => Counts {
+            executed: counts.executed + 1,
+            raised: counts.raised + raised_by(outcome),
+            reused: counts.reused + reused,
+        },
+    }
+}
+
+// One entry of the schedule: how it ends. A filled entry of the cache is executed as it stands, whatever word memory holds there.
 pub fn step(
     board: Board,
     memory: &mut [u8],
     states: &mut [u32],
     cache: &mut [u64],
     core: usize,
-    counts: Counts,
-) -> Counts
+) -> Turn
     requires { ⌜ core * 42 + 42 ≤ length (now states) ⌝ }
     requires { ⌜ core < 4 ⌝ }
-    requires { ⌜ AtMost 65535 counts ⌝ }
     requires { ⌜ Backed (now cache) (now memory) ⌝ }
     requires { ⌜ wordAt (now states) core pcAt % 4 ≡ 0 ⌝ }
-    ensures { λ r. ⌜ (fastOf (now (memory .exit)) (now (states .exit)) (now (cache .exit)) r ≡ fastStep board (fastOf (now (memory .entry)) (now (states .entry)) (now (cache .entry)) counts) core) × Grown counts r ⌝ }
+    ensures { λ r. ⌜ Stepped board (now (memory .entry)) (now (states .entry)) (now (cache .entry)) core (now (memory .exit)) (now (states .exit)) (now (cache .exit)) r ⌝ }
 {
     let base = core * state::STATE_WORDS;
     if states[base + state::MODE] != state::RUNNING {
-        return counts;
+        return Turn::Idle;
     }
     let pc = crate::index::of_u32(states[base + state::PC]);
     let f = fetch(memory, cache, pc);
     if f.entry == 0 {
-        let fault = exec::fetch_fault(states, core);
-        return counted(counts, fault.raised, 0);
+        return Turn::FetchFault(exec::fetch_fault(states, core));
     }
     let done = exec::execute(board, memory, states, core, f.entry);
     empty_touched(cache, done);
-    counted(counts, done.raised, f.reused)
+    let outcome = done.outcome;
+    Turn::Instruction(outcome, f.reused)
 }
 
 // The schedule's entries, in order. Both runs share this loop: exec::execute has one caller, so the compiler inlines it there.
@@ -134,7 +173,8 @@ pub fn run(memory: &mut [u8], states: &mut [u32], schedule: &[u8], cache: &mut [
     let mut i = 0;
     while i < schedule.len() {
         let core = crate::index::of_u8(schedule[i]);
-        counts = step(board, memory, states, cache, core, counts);
+        let turn = step(board, memory, states, cache, core);
+        counts = counted(counts, turn);
         i += 1;
     }
     counts

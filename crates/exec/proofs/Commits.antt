@@ -53,8 +53,8 @@ module _ {e e′ : Effect} (p : e ≡ e′) where
   pub sound-as : {len : ℕ} → Sound len e′ → Sound len e
   sound-as {len} h = subst (Sound len) (sym p) h
 
-  pub owned-as : {own own′ : List ℕ} {r : ℕ} → Owned own e own′ r → Owned own e′ own′ r
-  owned-as {own} {own′} {r} h = subst (λ (f : Effect). Owned own f own′ r) p h
+  pub owned-as : {own own′ : List ℕ} {o : Outcome} → Owned own e own′ o → Owned own e′ own′ o
+  owned-as {own} {own′} {o} h = subst (λ (f : Effect). Owned own f own′ o) p h
 
   pub performed-as : {mem own mem′ own′ : List ℕ} {r : Done} → Performed mem own e mem′ own′ r → Performed mem own e′ mem′ own′ r
   performed-as {mem} {own} {mem′} {own′} {r} h = subst (λ (f : Effect). Performed mem own f mem′ own′ r) p h
@@ -63,13 +63,13 @@ module _ {e e′ : Effect} (p : e ≡ e′) where
   executed-as {mem} {s} {mem′} {s′} {core} {r} x = subst (λ (f : Effect). Executed mem s core f mem′ s′ r) p x
 
 -- the core's own state is committed, and memory with it
-module _ {own own′ : List ℕ} {e : Effect} {r : ℕ} (o : Owned own e own′ r) where
-  pub performed : {mem mem′ : List ℕ} → mem′ ≡ memoryAfter mem e → {d : Done} → d ≡ tells r (e .store) → Performed mem own e mem′ own′ d
-  performed m {d} q = record { memory = m; left = o .left; done = q ∙ ap (λ (n : ℕ). tells n (e .store)) (o .raised) }
+module _ {own own′ : List ℕ} {e : Effect} {o : Outcome} (h : Owned own e own′ o) where
+  pub performed : {mem mem′ : List ℕ} → mem′ ≡ memoryAfter mem e → {d : Done} → d ≡ tells o (e .store) → Performed mem own e mem′ own′ d
+  performed m {d} q = record { memory = m; left = h .left; done = q ∙ ap (λ (o : Outcome). tells o (e .store)) (h .ended) }
 
-  pub kept : e .store ≡ noStore → Kept own e own′ (record { raised = r; stored = false; address = 0 })
+  pub kept : e .store ≡ noStore → Kept own e own′ (tells o noStore)
   unfolding memoryAfter stored
-  kept n mem = performed (sym (ap (λ (s : Store). stored (s .width) mem (s .address) (s .value)) n)) (sym (ap (tells r) n))
+  kept n mem = performed (sym (ap (λ (s : Store). stored (s .width) mem (s .address) (s .value)) n)) (sym (ap (tells o) n))
 
 -- and every core's link: s₁ is the states with the core's own committed
 module _ {mem own mem′ own′ : List ℕ} (s : List ℕ) {s₁ : List ℕ} (core : ℕ) {e : Effect} {r : Done} (p : Performed mem own e mem′ own′ r) (q : s₁ ≡ ownState s core e) where

@@ -89,7 +89,7 @@ module _ (s : List ℕ) (core : ℕ) (h : core * 42 + 42 ≤ length s) where
   unfolding putException
   stands-exception Completed d = d
   stands-exception (Raised x) d =
-      stands-put esrAt (x .esr) (omega arith) (stands-put eearAt (x .eear) (omega arith) (stands-put epcrAt (x .epcr) (omega arith) d))
+      stands-put esrAt (x .esr) (omega arith) (stands-put eearAt (x .eear) (omega arith) (stands-put epcrAt (x .epcr) (omega arith) (stands-put pcAt _ (omega arith) d)))
 
   stands-flow : (e : Effect) {t s′ : List ℕ} → Stands t s′ → Stands (putFlow t 0 e) (putFlow s′ core e)
   unfolding putFlow

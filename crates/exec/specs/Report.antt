@@ -10,16 +10,17 @@ use Rattle.effect.specs.Action.{effectBy}
 use Rattle.effect.specs.declared.types.Inputs.{Inputs}
 use Rattle.effect.specs.declared.types.Effect.{Effect}
 use Rattle.effect.specs.declared.types.Store.{Store}
+use Rattle.effect.specs.declared.types.Outcome.{Outcome}
 use Rattle.effect.specs.declared.types.Action.{Action}
-use Rattle.semantics.specs.Commit.{reads, ownState, memoryAfter, statesAfter, raisedBy}
+use Rattle.semantics.specs.Commit.{reads, ownState, memoryAfter, statesAfter}
 use Rattle.exec.specs.declared.Done.{Done}
 
--- what the run is told of r exceptions and a store
-abbrev pub tells : ℕ → Store → Done
-tells r s = record { raised = r; stored = ltb 0 (s .width); address = s .address }
+-- what the run is told of an outcome and a store
+abbrev pub tells : Outcome → Store → Done
+tells o s = record { outcome = o; stored = ltb 0 (s .width); address = s .address }
 
 abbrev pub doneBy : Effect → Done
-doneBy e = tells (raisedBy (e .outcome)) (e .store)
+doneBy e = tells (e .outcome) (e .store)
 
 -- ---- One core's own state, by itself: it is read and written as the states of a board with one core are.
 
@@ -36,10 +37,10 @@ entryInputs own core entry = ownInputs own core (fieldsOf entry)
 abbrev pub actionEffect : List ℕ → ℕ → ℕ → Action → Effect
 actionEffect own core entry a = effectBy (entryInputs own core entry) a
 
--- the effect e turned own into own′, and raised r exceptions
-pub record Owned (own : List ℕ) (e : Effect) (own′ : List ℕ) (r : ℕ) : Type 0 where
+-- the effect e turned own into own′, and ended in o
+pub record Owned (own : List ℕ) (e : Effect) (own′ : List ℕ) (o : Outcome) : Type 0 where
   pub left : own′ ≡ ownState own 0 e
-  pub raised : r ≡ raisedBy (e .outcome)
+  pub ended : o ≡ e .outcome
 
 -- the effect e turned memory mem and own into mem′ and own′, and the answer is r
 pub record Performed (mem own : List ℕ) (e : Effect) (mem′ own′ : List ℕ) (r : Done) : Type 0 where

@@ -5,7 +5,7 @@ ghost use lib.ListN.{length};
 ghost use Rattle.memory.specs.Memory.{stored as storedOf};
 ghost use Rattle.effect.specs.Action.{effectBy};
 ghost use Rattle.effect.specs.declared.types.Inputs.{Inputs};
-ghost use Rattle.semantics.specs.Commit.{putValue, putFlow, putStatus, putException, clearLink, clearLinks, coreCount, memoryAfter, raisedBy};
+ghost use Rattle.semantics.specs.Commit.{putValue, putFlow, putStatus, putException, clearLink, clearLinks, coreCount, memoryAfter};
 ghost use Rattle.lawful.specs.Sound.{Sound, SoundStore};
 ghost use Rattle.exec.specs.Report.{tells, actionEffect, Owned, Performed, Kept};
 use crate::Done;
@@ -22,6 +22,7 @@ use effect::types::Jumped;
 use effect::types::Outcome;
 use effect::types::Store;
 use effect::types::Written;
+use isa::vectors;
 
 // The register, or special-purpose register, that an effect writes; r0 is dropped.
 fn put_value(own: &mut [u32], e: Effect)
@@ -53,32 +54,31 @@ fn put_status(own: &mut [u32], e: Effect)
     own[state::MODE] = e.mode;
 }
 
-// EPCR, EEAR and ESR of an exception.
+// An exception's vector, EPCR, EEAR and ESR.
 fn put_raised(own: &mut [u32], x: Exception)
     requires { ⌜ 42 ≤ length (now own) ⌝ }
     ensures { λ _. ⌜ now (own .exit) ≡ putException (Outcome.Raised x) (now (own .entry)) 0 ⌝ }
 {
+    let cause = x.cause;
+    own[state::PC] = vectors::vector(cause);
     own[state::EPCR] = x.epcr;
     own[state::EEAR] = x.eear;
     own[state::ESR] = x.esr;
 }
 
-// How the step ends; answers how many exceptions were raised.
-fn put_outcome(own: &mut [u32], outcome: Outcome) -> u32
+// What is left of an exception, if the step ends in one.
+fn put_outcome(own: &mut [u32], outcome: Outcome)
     requires { ⌜ 42 ≤ length (now own) ⌝ }
-    ensures { λ r. ⌜ (now (own .exit) ≡ putException outcome (now (own .entry)) 0) × (r ≡ raisedBy outcome) ⌝ }
+    ensures { λ _. ⌜ now (own .exit) ≡ putException outcome (now (own .entry)) 0 ⌝ }
 {
     match outcome {
-        Outcome::Completed => 0,
-        Outcome::Raised(x) => {
-            put_raised(own, x);
-            1
-        }
+        Outcome::Completed => {}
+        Outcome::Raised(x) => put_raised(own, x),
     }
 }
 
-// The core's own state; answers how many exceptions were raised.
-pub fn commit_state(own: &mut [u32], e: Effect) -> u32
+// The core's own state; answers how the step ends.
+pub fn commit_state(own: &mut [u32], e: Effect) -> Outcome
     requires { ⌜ 42 ≤ length (now own) ⌝ }
     requires { ⌜ e .place < 42 ⌝ }
     ensures { λ r. ⌜ Owned (now (own .entry)) e (now (own .exit)) r ⌝ }
@@ -87,7 +87,8 @@ pub fn commit_state(own: &mut [u32], e: Effect) -> u32
     put_flow(own, e);
     put_status(own, e);
     let outcome = e.outcome;
-    put_outcome(own, outcome)
+    put_outcome(own, outcome);
+    outcome
 }
 
 // The bytes that an instruction stores.
@@ -101,12 +102,12 @@ fn put_store(memory: &mut [u8], s: Store)
 }
 
 // What an action tells the run.
-fn done(raised: u32, action: Action) -> Done
-    ensures { λ r. ⌜ ((x : Inputs) → r ≡ tells raised (effectBy x action .store)) ⌝ }
+fn done(outcome: Outcome, action: Action) -> Done
+    ensures { λ r. ⌜ ((x : Inputs) → r ≡ tells outcome (effectBy x action .store)) ⌝ }
 {
     let store = action::store_of(action);
     Done {
-        raised,
+        outcome,
         stored: 0 < store.width,
         address: store.address,
     }
@@ -120,9 +121,9 @@ pub fn advance(own: &mut [u32], core: usize, entry: u64, w: Written) -> Done
     ensures { λ r. ⌜ Kept (now (own .entry)) (actionEffect (now (own .entry)) core entry (Action.Advance w)) (now (own .exit)) r ⌝ }
 {
     let x = inputs_at(own, core, entry);
-    let raised = commit_state(own, completed::advanced(x, w));
+    let outcome = commit_state(own, completed::advanced(x, w));
     Done {
-        raised,
+        outcome,
         stored: false,
         address: 0,
     }
@@ -135,9 +136,9 @@ fn jump(own: &mut [u32], core: usize, entry: u64, j: Jumped) -> Done
     ensures { λ r. ⌜ Kept (now (own .entry)) (actionEffect (now (own .entry)) core entry (Action.Jump j)) (now (own .exit)) r ⌝ }
 {
     let x = inputs_at(own, core, entry);
-    let raised = commit_state(own, jumps::jumped(x, j));
+    let outcome = commit_state(own, jumps::jumped(x, j));
     Done {
-        raised,
+        outcome,
         stored: false,
         address: 0,
     }
@@ -150,26 +151,26 @@ fn save(memory: &mut [u8], own: &mut [u32], core: usize, entry: u64, s: Store) -
     ensures { λ r. ⌜ Performed (now (memory .entry)) (now (own .entry)) (actionEffect (now (own .entry)) core entry (Action.Save s)) (now (memory .exit)) (now (own .exit)) r ⌝ }
 {
     let x = inputs_at(own, core, entry);
-    let raised = commit_state(own, accesses::saved(x, s));
+    let outcome = commit_state(own, accesses::saved(x, s));
     put_store(memory, s);
     Done {
-        raised,
+        outcome,
         stored: 0 < s.width,
         address: s.address,
     }
 }
 
-// Any action, and how many exceptions it raised. It stands by itself, so that the frequent ones do not pay for the others.
-fn other(memory: &mut [u8], own: &mut [u32], core: usize, entry: u64, action: Action) -> u32
+// Any action, and how it ends. It stands by itself, so that the frequent ones do not pay for the others.
+fn other(memory: &mut [u8], own: &mut [u32], core: usize, entry: u64, action: Action) -> Outcome
     requires { ⌜ 42 ≤ length (now own) ⌝ }
     requires { ⌜ core < 4 ⌝ }
     requires { ⌜ Sound (length (now memory)) (actionEffect (now own) core entry action) ⌝ }
     ensures { λ r. ⌜ (now (memory .exit) ≡ memoryAfter (now (memory .entry)) (actionEffect (now (own .entry)) core entry action)) × Owned (now (own .entry)) (actionEffect (now (own .entry)) core entry action) (now (own .exit)) r ⌝ }
 {
     let x = inputs_at(own, core, entry);
-    let raised = commit_state(own, action::effect_by(x, action));
+    let outcome = commit_state(own, action::effect_by(x, action));
     put_store(memory, action::store_of(action));
-    raised
+    outcome
 }
 
 // An action that is likely to go on.

@@ -4,23 +4,25 @@ ghost use mathlib.Core.Path.{_≡_};
 ghost use Prim.Native.Nat.{ℕ, _+_, _*_, _≤_, _<_};
 ghost use lib.ListN.{length};
 ghost use Rattle.isa.specs.Parts.{Registers};
+ghost use Rattle.effect.specs.Effect.{noStore};
 ghost use Rattle.semantics.specs.Commit.{inputs, effectOf, fetchFault, noFields};
-ghost use Rattle.exec.specs.Report.{ownInputs, entryInputs, Executed};
+ghost use Rattle.exec.specs.Report.{tells, ownInputs, entryInputs, Executed};
 use effect::state;
 use effect::types::Board;
 use effect::types::Faulted;
 use effect::types::Flow;
 use effect::types::Inputs;
 use effect::types::Link;
+use effect::types::Outcome;
 use isa::entry::Fields;
 use isa::vectors::Cause;
 
 pub mod commit;
 pub mod perform;
 
-// What an instruction tells the run: exceptions raised, and whether and where it stored.
+// What an instruction tells the run: how it ends, and whether and where it stored.
 pub struct Done {
-    pub raised: u32,
+    pub outcome: Outcome,
     pub stored: bool,
     pub address: u32,
 }
@@ -101,11 +103,11 @@ pub fn execute(board: Board, memory: &mut [u8], states: &mut [u32], core: usize,
     done
 }
 
-// A fetch outside memory raises bus error, and leaves memory.
-pub fn fetch_fault(states: &mut [u32], core: usize) -> Done
+// A fetch outside memory raises bus error, and leaves memory; answers how the step ends.
+pub fn fetch_fault(states: &mut [u32], core: usize) -> Outcome
     requires { ⌜ core * 42 + 42 ≤ length (now states) ⌝ }
     requires { ⌜ core < 4 ⌝ }
-    ensures { λ r. ⌜ ((mem : List ℕ) → Executed mem (now (states .entry)) core (fetchFault (now (states .entry)) core) mem (now (states .exit)) r) ⌝ }
+    ensures { λ r. ⌜ ((mem : List ℕ) → Executed mem (now (states .entry)) core (fetchFault (now (states .entry)) core) mem (now (states .exit)) (tells r noStore)) ⌝ }
 {
     let x = state_at(states, core);
     let fault = Faulted {
@@ -114,10 +116,5 @@ pub fn fetch_fault(states: &mut [u32], core: usize) -> Done
     };
     let base = core * state::STATE_WORDS;
     let end = base + state::STATE_WORDS;
-    let raised = commit::commit_state(&mut states[base..end], effect::raised::faulted(x, fault));
-    Done {
-        raised,
-        stored: false,
-        address: 0,
-    }
+    commit::commit_state(&mut states[base..end], effect::raised::faulted(x, fault))
 }

@@ -1,6 +1,6 @@
 use mathlib.Core.Path.{sym, ap, _∙_}
 use denote.Ref.{now}
-use Rattle.engine.specs.Invariant.{verdictNumber}
+use Rattle.engine.specs.Refusal.{verdictNumber}
 use Rattle.engine.proofs.Refusals.{fast-runnable, fast-ran, fast-refused}
 use borrow.Author.Needs.{needs}
 use Rattle.engine.proofs.fast.fast_run.Statement.{statement}

@@ -1,4 +1,4 @@
-use mathlib.Core.Path.{_≡_, refl, sym, ap, _∙_}
+use mathlib.Core.Path.{_≡_, refl, sym, ap, subst, _∙_}
 use Prim.Native.Nat.{_-_, _<_, _≤_}
 use native.Mathlib.Omega.{arith}
 use lib.ListN.{length, drop}
@@ -7,8 +7,8 @@ use Rattle.lawful.specs.Accepted.{AllAccepted}
 use Rattle.engine.specs.Plain.{boardOf}
 use Rattle.engine.specs.Fast.{fastStep, fastFrom}
 use Rattle.engine.specs.Answer.{noCounts, AtMost}
-use Rattle.engine.specs.Invariant.{fastOf, Right}
-use Rattle.engine.proofs.Cases.{grown}
+use Rattle.engine.specs.Invariant.{fastOf, ReusedOnce, Right}
+use Rattle.engine.proofs.Cases.{turn-once, grown}
 use Rattle.engine.proofs.Schedule.{from-next, from-end, step-kept}
 use borrow.Author.Needs.{needs}
 use Rattle.engine.proofs.steps.run.Statement.{statement}
@@ -21,8 +21,8 @@ Inv-loop memory₀ states₀ schedule cache₀ cores board counts₀ i₀ memory
 abbrev μ-loop : tie.MeasureT-loop
 μ-loop memory₀ states₀ schedule cache₀ cores board counts₀ i₀ memory states cache counts i = length schedule - i
 
-cast-t11 : tie.Need-cast-t11 Inv-loop μ-loop
-cast-t11 c = search needs
+cast-t12 : tie.Need-cast-t12 Inv-loop μ-loop
+cast-t12 c = search needs
 
 loop-holds : tie.Need-loop-holds Inv-loop μ-loop
 loop-holds c =
@@ -41,7 +41,13 @@ step-requires c κs =
     let n = p .names-cores (l .i) (c .before .before .before .before .before .loop-test .taken) in
     let core = c .before .before .before .of-u8 in
     let h : core .result < coreCount (l .states) = omega (arith, n, core .ensures, l .inv .4) in
-    (omega arith, (omega arith, (record { executed-le = omega arith; raised-le = omega arith; reused-le = omega arith }, (omega (arith, p .backed, l .inv .3, l .inv .5), l .inv .6 (core .result) h .flow-lawful .pc-multiple))))
+    (omega arith, (omega arith, (omega (arith, p .backed, l .inv .3, l .inv .5), l .inv .6 (core .result) h .flow-lawful .pc-multiple)))
+
+counted-requires : tie.Need-counted-requires Inv-loop μ-loop
+counted-requires c κs =
+    let step = c .before .before .before .before .before .before .step in
+    let once = turn-once _ _ _ _ _ in
+    (record { executed-le = omega arith; raised-le = omega arith; reused-le = omega arith }, subst ReusedOnce (sym (step .ensures .turn)) once)
 
 add-i : tie.Need-add-i Inv-loop μ-loop
 add-i c = search needs
@@ -51,18 +57,20 @@ loop-less c = search needs
 
 loop-again : tie.Need-loop-again Inv-loop μ-loop
 loop-again c =
-    let loop-test = c .before .before .before .before .before .before .before .before .before .before .before .before .loop-test in
-    let l = c .before .before .before .before .before .before .before .before .before .before .before .before .before .loop in
-    let p = c .before .before .before .before .before .before .before .before .before .before .before .before .before .before .before .before .before .before .pre in
-    let core = c .before .before .before .before .before .before .before .before .before .before .of-u8 in
-    let f = c .before .before .before .before .before .before .step in
+    let loop-test = c .before .before .before .before .before .before .before .before .before .before .before .before .before .loop-test in
+    let l = c .before .before .before .before .before .before .before .before .before .before .before .before .before .before .loop in
+    let p = c .before .before .before .before .before .before .before .before .before .before .before .before .before .before .before .before .before .before .before .pre in
+    let core = c .before .before .before .before .before .before .before .before .before .before .before .of-u8 in
+    let f = c .before .before .before .before .before .before .before .step in
+    let q = c .counted .ensures in
     let n = p .names-cores (l .i) (loop-test .taken) in
     let h : core .result < coreCount (l .states) = omega (arith, n, core .ensures, l .inv .4) in
-    let kept = step-kept _ _ (core .result) h (l .inv .6) (l .inv .7) (f .ensures .0) in (
-      ap (fastFrom _ _) (f .ensures .0 ∙ ap (fastStep _ _) (core .ensures))
+    let e = ap (fastOf _ _ _) (q .0) ∙ f .ensures .left (l .counts) in
+    let kept = step-kept _ _ (core .result) h (l .inv .6) (l .inv .7) e in (
+      ap (fastFrom _ _) (e ∙ ap (fastStep _ _) (core .ensures))
           ∙ sym (from-next _ _ (l .i) _ (loop-test .taken))
           ∙ l .inv .0,
-      grown (l .i) (l .inv .1) (f .ensures .1),
+      grown (l .i) (l .inv .1) (q .1),
       omega arith,
       f .kept .1 .0 ∙ l .inv .3,
       f .kept .1 .1 .0 ∙ l .inv .4,
@@ -93,11 +101,12 @@ run-spec =
     (tie.spec
     Inv-loop
     μ-loop
-    cast-t11
+    cast-t12
     loop-holds
     shared-slice-read-of-u8
     of-u8-requires
     step-requires
+    counted-requires
     add-i
     loop-less
     loop-again

@@ -1,4 +1,4 @@
-use mathlib.Core.Path.{ap, _∙_}
+use mathlib.Core.Path.{refl, ap, _∙_}
 use mathlib.Core.List.{List}
 use Prim.Native.Nat.{ℕ}
 use Rattle.semantics.specs.Commit.{putFlow, putStatus, putException, ownState}
@@ -37,9 +37,9 @@ returns c =
     let outcome = c .before .before .put-outcome .ensures in
     record {
       left =
-          outcome .0 ∙ ap (λ (s : List ℕ). putException (e .outcome) s 0)
+          outcome ∙ ap (λ (s : List ℕ). putException (e .outcome) s 0)
           (status ∙ ap (λ (s : List ℕ). putStatus s 0 e) (flow ∙ ap (λ (s : List ℕ). putFlow s 0 e) value));
-      raised = outcome .1;
+      ended = refl;
     }
 
 pub commit-state-spec : {M : Type 1} → statement M

@@ -11,7 +11,7 @@ store-of-requires : tie.Need-store-of-requires
 store-of-requires c κs = search needs
 
 returns : tie.Need-returns
-returns c = λ x. ap (tells (c .before .before .args .raised)) (c .before .store-of .ensures x)
+returns c = λ x. ap (tells (c .before .before .args .outcome)) (c .before .store-of .ensures x)
 
 pub done-spec : {M : Type 1} → statement M
 done-spec = tie.close (tie.spec store-of-requires returns)

@@ -2,7 +2,7 @@ use mathlib.Core.Path.{_≡_, sym, ap, _∙_}
 use denote.Ref.{now}
 use Rattle.effect.specs.declared.types.Outcome.the-variants.{Completed}
 use Rattle.effect.specs.declared.types.Outcome.{Outcome}
-use Rattle.semantics.specs.Commit.{putException, raisedBy}
+use Rattle.semantics.specs.Commit.{putException}
 use Rattle.exec.proofs.Commits.{at-completed}
 use Rattle.exec.proofs.commit.put_outcome.Reads as reads
 use Rattle.exec.proofs.commit.put_outcome.Lts as lts
@@ -25,7 +25,7 @@ unfolding putException
 returns c =
     let a = c .before .before .before .args in
     let h : a .outcome ≡ Completed = at-completed (a .outcome) (c .before .match .keys1) in
-    (sym (ap (λ (o : Outcome). putException o (now (a .own)) 0) h), sym (ap raisedBy h))
+    sym (ap (λ (o : Outcome). putException o (now (a .own)) 0) h)
 
 same-length : tie.Need-same-length
 same-length c = search needs
@@ -34,7 +34,7 @@ returns-2 : tie.Need-returns-2
 returns-2 c =
     let a = c .before .before .before .before .before .before .before .before .args in
     let o = c .before .before .before .before .before .outcome .given .1 in
-    (c .before .before .put-raised .ensures ∙ ap (λ (o : Outcome). putException o (now (a .own)) 0) (sym o), ap raisedBy (sym o))
+    c .before .before .put-raised .ensures ∙ ap (λ (o : Outcome). putException o (now (a .own)) 0) (sym o)
 
 pub put-outcome-spec : {M : Type 1} → statement M
 put-outcome-spec =
