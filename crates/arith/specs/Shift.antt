@@ -14,7 +14,8 @@ shiftRight x n = x / 2 ^ (n % 32)
 unfoldable pub shiftRightSigned : ℕ → ℕ → ℕ
 shiftRightSigned x n = word (shrZ (signed 32 x) (2 ^ (n % 32)))
 
--- l.ror (document 000): the bits that go out at the low end come in at the top
+-- l.ror, of which neither document 000 nor 001 has a page: rotation to the right, as the name says (docs/DECISIONS.md, 15): the bits that go out at
+-- the low end come in at the top
 unfoldable pub rotateRight : ℕ → ℕ → ℕ
 rotateRight x n = x % 2 ^ (n % 32) * 2 ^ (32 - n % 32) + x / 2 ^ (n % 32)
 
