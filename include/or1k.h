@@ -55,15 +55,15 @@ enum {
 
 /* The bits of SR and ESR; all others are 0. */
 enum {
-    OR1K_SR_SM = 1 << 0,
-    OR1K_SR_TEE = 1 << 1,
-    OR1K_SR_IEE = 1 << 2,
-    OR1K_SR_F = 1 << 9,     /* flag */
-    OR1K_SR_CY = 1 << 10,   /* carry or borrow */
-    OR1K_SR_OV = 1 << 11,   /* overflow */
-    OR1K_SR_OVE = 1 << 12,  /* overflow raises a range exception */
-    OR1K_SR_DSX = 1 << 13,  /* the last exception was in a delay slot */
-    OR1K_SR_FO = 1 << 15,   /* always 1 */
+    OR1K_SR_SM = 1 << 0,   /* supervisor mode; this bit and the next two are kept, and no instruction heeds them */
+    OR1K_SR_TEE = 1 << 1,  /* tick timer exceptions */
+    OR1K_SR_IEE = 1 << 2,  /* interrupt exceptions */
+    OR1K_SR_F = 1 << 9,    /* flag */
+    OR1K_SR_CY = 1 << 10,  /* carry or borrow */
+    OR1K_SR_OV = 1 << 11,  /* overflow */
+    OR1K_SR_OVE = 1 << 12, /* overflow raises a range exception */
+    OR1K_SR_DSX = 1 << 13, /* the last exception was in a delay slot */
+    OR1K_SR_FO = 1 << 15,  /* always 1 */
     OR1K_SR_RESET = OR1K_SR_FO | OR1K_SR_SM
 };
 
