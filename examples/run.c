@@ -5,7 +5,7 @@
 
 #include "or1k.h"
 
-enum { MEMORY_BYTES = 4096, CORES = 1, STEPS = 6, REGISTERS = 32 };
+enum { MEMORY_BYTES = OR1K_MIN_MEMORY, CORES = 1, STEPS = 6 };
 
 static const uint32_t program[] = {0x9c600005, 0xe0841800, 0x03ffffff, 0x15000000};
 
@@ -21,17 +21,14 @@ static void reset(void)
     for (size_t i = 0; i < sizeof program / sizeof program[0]; i++)
         for (size_t byte = 0; byte < 4; byte++)
             memory[4 * i + byte] = (uint8_t)(program[i] >> (24 - 8 * byte));
-    memset(states, 0, sizeof states);
-    states[OR1K_SR] = 0x8001;
-    states[OR1K_ESR] = 0x8001;
-    states[OR1K_MODE] = 3;
+    or1k_reset(states, 0);
     memset(cache, 0, sizeof cache);
 }
 
 static void print(const char *run, uint64_t answer)
 {
     printf("%s\n", run);
-    if (or1k_refusal(answer) != 0) {
+    if (or1k_refusal(answer) != OR1K_ACCEPTED) {
         printf("refused=%" PRIu32 "\n", or1k_refusal(answer));
         return;
     }
@@ -40,7 +37,7 @@ static void print(const char *run, uint64_t answer)
     printf("reused=%" PRIu32 "\n", or1k_reused(answer));
     printf("core=0 mode=%" PRIu32 " pc=%08" PRIx32, states[OR1K_MODE], states[OR1K_PC]);
     printf(" delay=%" PRIu32 " sr=%08" PRIx32 "\n", states[OR1K_DELAY], states[OR1K_SR]);
-    for (int i = 0; i < REGISTERS; i++)
+    for (int i = 0; i < OR1K_REGISTERS; i++)
         if (states[i] != 0)
             printf("r%d=%08" PRIx32 "\n", i, states[i]);
 }

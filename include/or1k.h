@@ -1,4 +1,5 @@
-/* The engine's functions for C. Link with the archive that `rt staticlib host` writes. */
+/* The engine's functions for C and C++; README.md has their declarations for Rust. Link with the archive that `rt staticlib host` writes.
+ * Where a comment puts a word in brackets, document 01 has that word for the thing. */
 #ifndef OR1K_H
 #define OR1K_H
 
@@ -9,42 +10,110 @@
 extern "C" {
 #endif
 
-/* Words and entries. */
-
-/* Document 01's refusal 8: no 32-bit word decodes to the entry. */
-#define OR1K_NO_WORD (UINT64_C(1) << 32)
+/* Words and entries.
+ *
+ * An entry is a decoded word: bits 63-56 kind (1 to 79), 46-42 D, 41-37 A, 36-32 B, 31-0 immediate, the rest 0. No entry is 0. */
 
 /* The entry that a word decodes to; every word has one. */
 uint64_t or1k_decode(uint32_t word);
 
-/* The word with reserved bits 0 that decodes to the entry, or OR1K_NO_WORD. */
+/* The word with reserved bits 0 that decodes to the entry, or OR1K_NO_WORD if no word does. */
 uint64_t or1k_encode(uint64_t entry);
 
-/* Runs.
- *
- * What a caller lends, each as a pointer and a length that counts items, not bytes:
- *   memory    4,096 to 1,048,576 bytes, a multiple of 4, high byte first
- *   states    OR1K_STATE_WORDS words for each of 1 to 4 cores (document 01's sheets)
- *   schedule  up to 65,536 bytes, each the number of the core that runs one instruction; it is only read
- *   cache     one entry for each word of memory, 0 where it is empty (document 01's table); the fast run only
- *
- * Items and lengths may be anything: what breaks a rule of document 01 is refused, and then nothing lent is written. The pointers
- * must be good for their lengths, aligned for their types and not null, and the buffers must not overlap. Nothing is kept after the call.
- */
+/* Stands for OR1K_REFUSED_NO_WORD. */
+#define OR1K_NO_WORD (UINT64_C(1) << 32)
 
-/* Places in a core's state, after its registers 0 to 31. */
+/* Limits. */
 enum {
-    OR1K_PC = 32,
-    OR1K_DELAY,
-    OR1K_TARGET,
+    OR1K_REGISTERS = 32,
+    OR1K_MAX_CORES = 4,
+    OR1K_MIN_MEMORY = 4096,    /* bytes */
+    OR1K_MAX_MEMORY = 1048576, /* bytes */
+    OR1K_MAX_SCHEDULE = 65536  /* entries */
+};
+
+/* A core's state [sheet]: its registers r0 to r31, then these words. */
+enum {
+    OR1K_PC = OR1K_REGISTERS, /* the next instruction's address */
+    OR1K_DELAY,               /* 1 if that instruction is in a delay slot, else 0 */
+    OR1K_TARGET,              /* where to go after the slot */
     OR1K_SR,
     OR1K_EPCR,
     OR1K_EEAR,
     OR1K_ESR,
-    OR1K_LINK,
+    OR1K_LINK, /* 1 from l.lwa until the link is cleared, else 0 */
     OR1K_LINK_ADDRESS,
-    OR1K_MODE, /* 0 halted, 3 running */
-    OR1K_STATE_WORDS
+    OR1K_MODE,
+    OR1K_STATE_WORDS /* how many words a state has: 42 */
+};
+
+/* The modes. A halted core's entries of the schedule do nothing. */
+enum {
+    OR1K_HALTED = 0,
+    OR1K_RUNNING = 3
+};
+
+/* The bits of SR and ESR; all others are 0. */
+enum {
+    OR1K_SR_SM = 1 << 0,   /* supervisor mode; this bit and the next two are kept, and no instruction heeds them */
+    OR1K_SR_TEE = 1 << 1,  /* tick timer exceptions */
+    OR1K_SR_IEE = 1 << 2,  /* interrupt exceptions */
+    OR1K_SR_F = 1 << 9,    /* flag */
+    OR1K_SR_CY = 1 << 10,  /* carry or borrow */
+    OR1K_SR_OV = 1 << 11,  /* overflow */
+    OR1K_SR_OVE = 1 << 12, /* overflow raises a range exception */
+    OR1K_SR_DSX = 1 << 13, /* the last exception was in a delay slot */
+    OR1K_SR_FO = 1 << 15,  /* always 1 */
+    OR1K_SR_RESET = OR1K_SR_FO | OR1K_SR_SM
+};
+
+/* Resets one core's state, OR1K_STATE_WORDS words: it runs from the entry, a multiple of 4. */
+static inline void or1k_reset(uint32_t *state, uint32_t entry)
+{
+    for (int i = 0; i < OR1K_STATE_WORDS; i++)
+        state[i] = 0;
+    state[OR1K_PC] = entry;
+    state[OR1K_SR] = OR1K_SR_RESET;
+    state[OR1K_ESR] = OR1K_SR_RESET;
+    state[OR1K_MODE] = OR1K_RUNNING;
+}
+
+/* Runs.
+ *
+ * A caller lends these buffers, each as a pointer and a length. A length counts items; `sizeof` counts bytes, so an array's length is
+ * `sizeof a / sizeof a[0]`.
+ *   memory    OR1K_MIN_MEMORY to OR1K_MAX_MEMORY bytes, a multiple of 4, from address 0, the high byte of a word first
+ *   states    OR1K_STATE_WORDS words for each of 1 to OR1K_MAX_CORES cores
+ *   schedule  up to OR1K_MAX_SCHEDULE bytes, each the number, from 0, of the core that runs one instruction; it is only read
+ *   cache     for the fast run: the entry of each word of memory, or 0 where it is empty [table]
+ *
+ * What a caller must see to:
+ *   - Each pointer is good for its length, aligned for its type and not null, also where the length is 0. Every item is initialised.
+ *   - No buffer overlaps another.
+ *   - Until the call returns, nobody else writes any of the buffers or reads memory, states or cache: no other thread, signal handler or
+ *     device. What was tested would no longer hold, and the run could write outside what it was lent.
+ * Nothing else is asked: lengths and items may be anything, and what breaks a rule is refused before anything is written. Nothing is kept
+ * after a call, so threads may call at once with buffers of their own.
+ *
+ * A longer run is further calls on the same buffers: each goes on from what the last one left, which is accepted again, and counts from 0.
+ * Before it runs, a call of the fast run looks through the cache: about 0.4 ns for an empty entry and 6 ns for a filled one
+ * (docs/PERFORMANCE.md), so few long schedules cost less than many short ones. Whoever writes memory between two calls sets the entries of
+ * the words that were written to 0; an entry that is no longer its word's is refused.
+ */
+
+/* Why a run was refused: the first of 1 to 7 that is so (of 1 to 5 in the plain run). */
+enum {
+    OR1K_ACCEPTED = 0,
+    OR1K_REFUSED_MEMORY_LENGTH = 1,   /* memory is too short, too long or no multiple of 4 */
+    OR1K_REFUSED_STATES_LENGTH = 2,   /* the states are not OR1K_STATE_WORDS words for each of 1 to 4 cores */
+    OR1K_REFUSED_STATE = 3,           /* a state breaks a rule: r0 is 0; delay and link are 0 or 1; mode is OR1K_HALTED or OR1K_RUNNING;
+                                         PC, target, EPCR and link address are multiples of 4; target is 0 if delay is 0, link address 0 if
+                                         link is 0; SR and ESR have OR1K_SR_FO and no bits but those above */
+    OR1K_REFUSED_SCHEDULE_LENGTH = 4, /* the schedule is too long */
+    OR1K_REFUSED_CORE = 5,            /* the schedule names a core that is not there */
+    OR1K_REFUSED_CACHE_LENGTH = 6,    /* the cache has not one entry for each word of memory */
+    OR1K_REFUSED_CACHE_ENTRY = 7,     /* an entry that is not 0 is not what its word decodes to */
+    OR1K_REFUSED_NO_WORD = 8          /* the encoder only: no word decodes to the entry */
 };
 
 /* Runs the schedule's entries in order and decodes each word afresh. The answer is read by the four functions below. */
@@ -57,7 +126,7 @@ uint64_t or1k_fast_run(uint8_t *memory, size_t memory_length, uint32_t *states, 
 
 /* The four parts of a run's answer. */
 
-/* Bits 63-60: 0, or the number of the refusal, 1 to 7; then the counts are 0. */
+/* Bits 63-60: OR1K_ACCEPTED, or the number of the refusal; then the counts are 0. */
 static inline uint32_t or1k_refusal(uint64_t answer)
 {
     return (uint32_t)(answer >> 60);

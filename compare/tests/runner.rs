@@ -13,6 +13,8 @@ use compare::card;
 use compare::cards;
 use compare::rng::Rng;
 use std::io::Write;
+use std::os::fd::OwnedFd;
+use std::os::unix::net::UnixStream;
 use std::path::{Path, PathBuf};
 use std::process::{Child, ChildStdin, Command, Stdio};
 use std::thread;
@@ -172,5 +174,37 @@ fn stored_cards() {
             }
         }
         assert!(count > 0, "no card");
+    }
+}
+
+/// A socket that hands over the bytes and then fails: its other end was closed
+/// with something left unread.
+fn failing_after(bytes: &[u8]) -> Stdio {
+    let (mut input, mut other) = UnixStream::pair().expect("a pair of sockets");
+    other.write_all(bytes).expect("room for the bytes");
+    input.write_all(b"unread").expect("room for a word");
+    drop(other);
+    OwnedFd::from(input).into()
+}
+
+/// A read that fails is not the end of the card, also where what came before is
+/// a whole one.
+#[test]
+fn reads_that_fail() {
+    for program in programs("reads that fail") {
+        let card = std::fs::read("../examples/first.card").expect("the first card");
+        for end in [0, 1, card.len() - 1, card.len()] {
+            let mut command = Command::new(&program);
+            command.stdin(failing_after(&card[..end])).stderr(Stdio::piped());
+            let output = command.output().expect("an end");
+            let printed = String::from_utf8_lossy(&output.stdout);
+            assert_eq!(printed, "", "after {end} bytes, {}", program.display());
+            let told = String::from_utf8_lossy(&output.stderr);
+            assert!(
+                program == Path::new(OWN) || told == "runner: the card could not be read\n",
+                "after {end} bytes, {}: {told:?}",
+                program.display()
+            );
+        }
     }
 }

@@ -1,0 +1,2 @@
+-- Laws of the runner's buffer.
+pub mod Parts

@@ -1,0 +1,71 @@
+/* Breaks each rule of a run in turn and prints the refusal, then the bits that SR may have. What is at a limit is accepted. */
+#include <inttypes.h>
+#include <stdio.h>
+#include <string.h>
+
+#include "or1k.h"
+
+enum { SR_BITS = OR1K_SR_SM | OR1K_SR_TEE | OR1K_SR_IEE | OR1K_SR_F | OR1K_SR_CY | OR1K_SR_OV | OR1K_SR_OVE | OR1K_SR_DSX | OR1K_SR_FO };
+
+static uint8_t memory[OR1K_MAX_MEMORY + 4];
+static uint32_t states[(OR1K_MAX_CORES + 1) * OR1K_STATE_WORDS];
+static uint8_t schedule[OR1K_MAX_SCHEDULE + 1];
+static uint64_t cache[OR1K_MAX_MEMORY / 4 + 1];
+
+/* Prints the refusal of a run from reset with these lengths, and whether it is the one that is due. */
+static void try_lengths(const char *what, uint32_t due, size_t memory_length, size_t cores, size_t schedule_length, size_t cache_length)
+{
+    for (size_t core = 0; core < cores; core++)
+        or1k_reset(states + core * OR1K_STATE_WORDS, 0);
+    uint32_t refusal = or1k_refusal(
+        or1k_fast_run(memory, memory_length, states, cores * OR1K_STATE_WORDS, schedule, schedule_length, cache, cache_length));
+    printf("%s: %" PRIu32 "%s\n", what, refusal, refusal == due ? "" : " IS WRONG");
+}
+
+static uint32_t refusal_of_states(size_t length)
+{
+    return or1k_refusal(or1k_plain_run(memory, OR1K_MIN_MEMORY, states, length, schedule, 0));
+}
+
+int main(void)
+{
+    const size_t least = OR1K_MIN_MEMORY, most = OR1K_MAX_MEMORY, entries = OR1K_MAX_SCHEDULE, cores = OR1K_MAX_CORES;
+
+    try_lengths("the least", OR1K_ACCEPTED, least, 1, 0, least / 4);
+    try_lengths("the most", OR1K_ACCEPTED, most, cores, entries, most / 4);
+    memset(cache, 0, sizeof cache);
+    try_lengths("too little memory", OR1K_REFUSED_MEMORY_LENGTH, least - 4, 1, 0, least / 4);
+    try_lengths("too much memory", OR1K_REFUSED_MEMORY_LENGTH, most + 4, 1, 0, most / 4 + 1);
+    try_lengths("no core", OR1K_REFUSED_STATES_LENGTH, least, 0, 0, least / 4);
+    try_lengths("five cores", OR1K_REFUSED_STATES_LENGTH, least, cores + 1, 0, least / 4);
+    try_lengths("a long schedule", OR1K_REFUSED_SCHEDULE_LENGTH, least, 1, entries + 1, least / 4);
+    schedule[0] = 1;
+    try_lengths("a missing core", OR1K_REFUSED_CORE, least, 1, 1, least / 4);
+    try_lengths("a core that is there", OR1K_ACCEPTED, least, 2, 1, least / 4);
+    memset(cache, 0, sizeof cache);
+    try_lengths("a short cache", OR1K_REFUSED_CACHE_LENGTH, least, 1, 0, least / 4 - 1);
+    cache[1] = or1k_decode(0x15000000);
+    try_lengths("another word's entry", OR1K_REFUSED_CACHE_ENTRY, least, 1, 0, least / 4);
+    printf("no word's entry: %d\n", or1k_encode(0) == OR1K_NO_WORD ? OR1K_REFUSED_NO_WORD : OR1K_ACCEPTED);
+
+    or1k_reset(states, 0);
+    states[0] = 1;
+    printf("r0 = 1: %" PRIu32 "\n", refusal_of_states(OR1K_STATE_WORDS));
+    or1k_reset(states, 2);
+    printf("entry 2: %" PRIu32 "\n", refusal_of_states(OR1K_STATE_WORDS));
+    or1k_reset(states, 0);
+    printf("43 words: %" PRIu32 "\n", refusal_of_states(OR1K_STATE_WORDS + 1));
+
+    uint32_t bits = 0;
+    for (uint32_t bit = 0; bit < 32; bit++) {
+        or1k_reset(states, 0);
+        states[OR1K_SR] = OR1K_SR_FO | UINT32_C(1) << bit;
+        if (refusal_of_states(OR1K_STATE_WORDS) == OR1K_ACCEPTED)
+            bits |= UINT32_C(1) << bit;
+    }
+    printf("SR's bits: %08" PRIx32 "%s\n", bits, bits == SR_BITS ? "" : " IS WRONG");
+    or1k_reset(states, 0);
+    states[OR1K_MODE] = OR1K_HALTED;
+    printf("halted: %" PRIu32 "\n", refusal_of_states(OR1K_STATE_WORDS));
+    return 0;
+}
