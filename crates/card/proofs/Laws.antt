@@ -14,10 +14,10 @@ use Rattle.text.specs.Digits.{digit}
 use Rattle.text.specs.Lines.{Line, ended, cut, onto, lines, entryOf}
 use Rattle.text.specs.Places.{lineEnd, foundIn}
 use Rattle.text.specs.declared.Found.{Found}
-use Rattle.card.specs.Card.{Field, step, stop, followed, read, first, schedule, word, onward, wordLines, noneLeft, every, Left, Verdict, good, refused, formFault}
+use Rattle.card.specs.Card.{Field, step, stop, followed, read, first, schedule, word, wordLines, noneLeft, every, Left, Verdict, good, refused, formFault}
 use Rattle.card.specs.Answer.{refusal}
 use Rattle.card.specs.Places.{stepIn, fieldIn, Next, Ahead}
-use Rattle.card.specs.Reader.{further, header, putSchedule, scheduleLine}
+use Rattle.card.specs.Reader.{header, putSchedule, scheduleLine}
 use Rattle.card.specs.declared.Job.{Job}
 use Rattle.card.specs.declared.Progress.{Progress}
 use Rattle.card.specs.declared.Field.the-variants as F

@@ -8,7 +8,7 @@ use denote.Ref.{RefT, now}
 use lib.Dec.{leb}
 use lib.ListN.{length, drop}
 use Rattle.text.specs.Ascii.{ascii}
-use Rattle.text.specs.Lines.{Line, lines, Entry, entryOf}
+use Rattle.text.specs.Lines.{Line, lines, Entry}
 use Rattle.text.specs.Places.{lineEnd, afterLines}
 use Rattle.text.proofs.Laws.{textAt, Stands, nowhere, there, entry-stands}
 use Rattle.card.specs.Card.{Field, value, fault, cores, memory, entryAddress, steps, schedule, wordCount, word, Step, step, stop, followed, read, first, onward, line, wordLines, noneLeft, content, cardSays, Left, Verdict, good, refused, Job, formFault, maxCard}

@@ -1,7 +1,7 @@
 -- Places in a card, for the contracts of the functions that read a line: a place stands for the lines from it on.
 use Prim.Native.Nat.{ℕ, _+_, _≤_}
 use mathlib.Core.Path.{_≡_}
-use mathlib.Core.Bool.{Bool, true, false}
+use mathlib.Core.Bool.{Bool}
 use mathlib.Core.List.{List, map}
 use lib.ListN.{length, drop}
 use Rattle.bits.specs.Choice.{if_then_else_}
@@ -10,7 +10,7 @@ use Rattle.text.specs.Numbers.{decimal, hexadecimal}
 use Rattle.text.specs.Lines.{lines}
 use Rattle.text.specs.Places.{lineEnd}
 use Rattle.text.specs.declared.Parsed.{Parsed}
-use Rattle.card.specs.Card.{value, fault, limited, Step, step, stop, Left, maxWord}
+use Rattle.card.specs.Card.{value, fault, limited, Step, step, stop, Left}
 use Rattle.card.specs.Card as paper
 use Rattle.card.specs.Answer.{refusal}
 use Rattle.card.specs.declared.Field.{Field}
@@ -25,12 +25,6 @@ parsedBy hex t = if hex then hexadecimal t else decimal t
 
 abbrev pub numberText : Format → List ℕ → paper.Field ℕ
 numberText f t = limited (f .low) (f .high) (f .multiple) (parsedBy (f .hex) t)
-
-abbrev pub decimalBetween : ℕ → ℕ → ℕ → Format
-decimalBetween low high m = record { hex = false; low = low; high = high; multiple = m }
-
-abbrev pub anyWord : ℕ → Format
-anyWord m = record { hex = true; low = 0; high = maxWord; multiple = m }
 
 abbrev pub fieldIn : Field → paper.Field ℕ
 fieldIn (F.Value v next) = value v

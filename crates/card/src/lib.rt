@@ -1,12 +1,12 @@
 // What a run card says, line by line.
 ghost use mathlib.Core.Path.{_≡_};
-ghost use Prim.Native.Nat.{_+_, _≤_, _<_};
+ghost use Prim.Native.Nat.{_≤_, _<_};
 ghost use lib.ListN.{length, drop};
 ghost use Rattle.text.specs.Ascii.{ascii};
 ghost use Rattle.text.specs.Lines.{lines};
-ghost use Rattle.card.specs.Card.{limited as limitedOf, first, schedule as scheduleOf, digitsBelow, word, good, cardSays, maxCard};
+ghost use Rattle.card.specs.Card.{limited as limitedOf, first, schedule as scheduleOf, digitsBelow, word, cardSays, maxCard};
 ghost use Rattle.card.specs.Answer.{told, andThen, answered};
-ghost use Rattle.card.specs.Places.{parsedBy, numberText, decimalBetween, anyWord, fieldIn, Next, stepIn, Ahead, scheduleIn};
+ghost use Rattle.card.specs.Places.{parsedBy, numberText, fieldIn, Next, stepIn, Ahead, scheduleIn};
 ghost use Rattle.card.specs.Reader.{standing, startOf, header, putOf, scheduleLine, headerLine, wordLinesOf, lastLines};
 use text::Found;
 use text::Parsed;
@@ -128,40 +128,30 @@ fn start(card: &[u8]) -> Reached
     })
 }
 
+// The header's lines by their numbers.
 fn line_at(card: &[u8], reached: Reached) -> Reached
     ensures { λ r. ⌜ standing r ≡ andThen (standing reached) (headerLine (now (card .entry))) ⌝ }
 {
-    match reached {
-        Reached::Line(p) => header_line(card, p),
-        Reached::Fault(cause, line) => Reached::Fault(cause, line),
-    }
-}
-
-// The header's lines by their numbers.
-fn header_line(card: &[u8], p: Progress) -> Reached
-    ensures { λ r. ⌜ standing r ≡ headerLine (now (card .entry)) p ⌝ }
-{
+    let Reached::Line(p) = reached else {
+        return reached;
+    };
     let line = p.line;
     match line {
-        1 => number_line(card, p, Item::Cores, b"cores=", decimal(1, MAX_CORES, 1)),
-        2 => number_line(
-            card,
-            p,
-            Item::Memory,
-            b"memory=",
-            decimal(MIN_MEMORY, MAX_MEMORY, 4),
-        ),
-        3 => number_line(card, p, Item::Entry, b"entry=", hexadecimal(4)),
-        4 => number_line(card, p, Item::Steps, b"steps=", decimal(0, MAX_STEPS, 1)),
+        1 => number_line(card, p, Item::Cores, b"cores=", CORES),
+        2 => number_line(card, p, Item::Memory, b"memory=", MEMORY),
+        3 => number_line(card, p, Item::Entry, b"entry=", ENTRY),
+        4 => number_line(card, p, Item::Steps, b"steps=", STEPS),
         5 => schedule_line(card, p),
-        6 => number_line(
-            card,
-            p,
-            Item::Words,
-            b"words=",
-            decimal(0, p.job.memory / 4, 1),
-        ),
-        _ => Reached::Line(p),
+        6 => {
+            let words = Format {
+                hex: false,
+                low: 0,
+                high: p.job.memory / 4,
+                multiple: 1,
+            };
+            number_line(card, p, Item::Words, b"words=", words)
+        }
+        _ => reached,
     }
 }
 
@@ -187,18 +177,6 @@ fn put(mut job: Job, item: Item, n: u32) -> Job
     job
 }
 
-// The line after another.
-fn advanced(line: u32, at: usize, job: Job) -> Reached
-    requires { ⌜ line ≤ 6 ⌝ }
-    ensures { λ r. ⌜ standing r ≡ good (record { at = at; line = line + 1; job = job }) ⌝ }
-{
-    Reached::Line(Progress {
-        at,
-        line: line + 1,
-        job,
-    })
-}
-
 // A line with a number of the job.
 fn number_line(card: &[u8], p: Progress, item: Item, key: &[u8], form: Format) -> Reached
     requires { ⌜ (p .line ≤ 6) × (0 < form .multiple) ⌝ }
@@ -207,7 +185,12 @@ fn number_line(card: &[u8], p: Progress, item: Item, key: &[u8], form: Format) -
     match number_at(card, p.at, key, form) {
         Field::Value(n, next) => {
             let job = put(p.job, item, n);
-            advanced(p.line, next, job)
+            let line = p.line + 1;
+            Reached::Line(Progress {
+                at: next,
+                line,
+                job,
+            })
         }
         Field::Fault(cause) => Reached::Fault(cause, p.line),
     }
@@ -225,7 +208,9 @@ fn schedule_line(card: &[u8], p: Progress) -> Reached
                 Check::Passed => {
                     job.schedule = from;
                     job.digits = end - from;
-                    advanced(p.line, end + 1, job)
+                    let at = end + 1;
+                    let line = p.line + 1;
+                    Reached::Line(Progress { at, line, job })
                 }
                 Check::Failed(cause) => Reached::Fault(cause, p.line),
             }
@@ -234,30 +219,27 @@ fn schedule_line(card: &[u8], p: Progress) -> Reached
     }
 }
 
+// The lines after the header, which has to be read.
 fn finish_at(card: &[u8], reached: Reached) -> Reading
     ensures { λ r. ⌜ told r ≡ andThen (standing reached) (lastLines (now (card .entry))) ⌝ }
 {
     match reached {
-        Reached::Line(p) => last_lines(card, p),
+        Reached::Line(p) => {
+            if MAX_CARD < card.len() {
+                return Reading::Bad(Cause::Form, 0);
+            }
+            if p.line != WORD_LINES {
+                return Reading::Bad(Cause::Form, p.line);
+            }
+            let mut job = p.job;
+            job.image = p.at;
+            word_lines(card, job)
+        }
         Reached::Fault(cause, line) => Reading::Bad(cause, line),
     }
 }
 
-// The w lines of a job whose header is read, and no line more.
-fn last_lines(card: &[u8], p: Progress) -> Reading
-    ensures { λ r. ⌜ told r ≡ lastLines (now (card .entry)) p ⌝ }
-{
-    if MAX_CARD < card.len() {
-        return Reading::Bad(Cause::Form, 0);
-    }
-    if p.line != WORD_LINES {
-        return Reading::Bad(Cause::Form, p.line);
-    }
-    let mut job = p.job;
-    job.image = p.at;
-    word_lines(card, job)
-}
-
+// The w lines of a job, and no line more.
 fn word_lines(card: &[u8], job: Job) -> Reading
     requires { ⌜ length (now card) ≤ maxCard ⌝ }
     ensures { λ r. ⌜ told r ≡ wordLinesOf (now (card .entry)) job ⌝ }
@@ -292,7 +274,7 @@ pub enum Field {
 pub fn word_at(card: &[u8], at: usize) -> Field
     ensures { λ r. ⌜ (stepIn (now (card .entry)) r ≡ first (ascii "w=") word (lines (drop at (now (card .entry))))) × (Ahead (now (card .entry)) at r) ⌝ }
 {
-    number_at(card, at, b"w=", hexadecimal(1))
+    number_at(card, at, b"w=", WORD)
 }
 
 // The form and the limits of a line's number.
@@ -303,27 +285,40 @@ pub struct Format {
     pub multiple: u32,
 }
 
-fn decimal(low: u32, high: u32, multiple: u32) -> Format
-    ensures { λ r. ⌜ r ≡ decimalBetween low high multiple ⌝ }
-{
-    Format {
-        hex: false,
-        low,
-        high,
-        multiple,
-    }
-}
+const CORES: Format = Format {
+    hex: false,
+    low: 1,
+    high: MAX_CORES,
+    multiple: 1,
+};
 
-fn hexadecimal(multiple: u32) -> Format
-    ensures { λ r. ⌜ r ≡ anyWord multiple ⌝ }
-{
-    Format {
-        hex: true,
-        low: 0,
-        high: MAX_WORD,
-        multiple,
-    }
-}
+const MEMORY: Format = Format {
+    hex: false,
+    low: MIN_MEMORY,
+    high: MAX_MEMORY,
+    multiple: 4,
+};
+
+const ENTRY: Format = Format {
+    hex: true,
+    low: 0,
+    high: MAX_WORD,
+    multiple: 4,
+};
+
+const STEPS: Format = Format {
+    hex: false,
+    low: 0,
+    high: MAX_STEPS,
+    multiple: 1,
+};
+
+const WORD: Format = Format {
+    hex: true,
+    low: 0,
+    high: MAX_WORD,
+    multiple: 1,
+};
 
 // The number on the line at a place.
 fn number_at(card: &[u8], at: usize, key: &[u8], form: Format) -> Field

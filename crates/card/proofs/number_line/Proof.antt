@@ -17,8 +17,8 @@ enum-known-n c = search needs
 put-requires : tie.Need-put-requires
 put-requires c κs = search needs
 
-advanced-requires : tie.Need-advanced-requires
-advanced-requires c κs = search needs
+add-line : tie.Need-add-line
+add-line c = search needs
 
 enum-known-cause : tie.Need-enum-known-cause
 enum-known-cause c = search needs
@@ -28,8 +28,7 @@ returns c =
     let a = c .before .before .before .before .before .before .before .before .args in
     let r = c .before .before .before .before .before .number-at .ensures in
     let g = c .before .before .before .n .given in
-    c .advanced .ensures
-    ∙ ap (λ j. good (record { at = g .0 .1 .0; line = a .p .line + 1; job = j })) (c .before .put .ensures)
+    ap (λ j. good (record { at = g .0 .1 .0; line = a .p .line + 1; job = j })) (c .before .put .ensures)
     ∙ header-good (a .key .now) (numberText (a .form)) (putOf (a .item)) (a .card .now) (a .p) (r .0) (r .1) (g .1)
 
 returns-2 : tie.Need-returns-2
@@ -44,7 +43,7 @@ number-line-spec =
     number-at-requires
     enum-known-n
     put-requires
-    advanced-requires
+    add-line
     enum-known-cause
     returns
     returns-2)

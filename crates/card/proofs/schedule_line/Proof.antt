@@ -9,7 +9,6 @@ use Rattle.card.proofs.Laws.{first-found, schedule-good, schedule-bad}
 use borrow.Author.Needs.{needs}
 use Rattle.card.proofs.schedule_line.Statement.{statement}
 use Rattle.card.proofs.schedule_line.Tie as tie
-use Rattle.text.proofs.find_entry.Reads as find-entry-reads
 
 slice-aggregate-find-entry : tie.Need-slice-aggregate-find-entry
 slice-aggregate-find-entry c = search needs
@@ -38,11 +37,11 @@ enum-told c = search needs
 sub-job : tie.Need-sub-job
 sub-job c = let i = rw (c .before .before .before .before .before .before .from .given .1) at (c .before .before .before .before .before .before .before .before .find-entry .ensures .1) in search needs
 
-add-advanced : tie.Need-add-advanced
-add-advanced c = let i = rw (c .before .before .before .before .before .before .from .given .1) at (c .before .before .before .before .before .before .before .before .find-entry .ensures .1) in search needs
+add-at : tie.Need-add-at
+add-at c = let i = rw (c .before .before .before .before .before .before .from .given .1) at (c .before .before .before .before .before .before .before .before .find-entry .ensures .1) in search needs
 
-advanced-requires : tie.Need-advanced-requires
-advanced-requires c κs = search needs
+add-line : tie.Need-add-line
+add-line c = search needs
 
 enum-known-cause : tie.Need-enum-known-cause
 enum-known-cause c = search needs
@@ -59,7 +58,7 @@ returns c =
     let s = schedule (a .p .job .cores) in
     let e = first-found (ascii "schedule=") s card _ (c .before .before .before .before .before .before .before .before .before .find-entry .ensures .0) (g .1) ∙ ap (followed (lines (drop (g .0 .1 .0 + 1) card))) (sym (c .before .before .before .check-schedule .ensures) ∙ ap (scheduleIn t) (c .before .enum-told .given .1)) in
     let i = rw (g .1) at (c .before .before .before .before .before .before .before .before .before .find-entry .ensures .1) in
-    c .advanced .ensures ∙ schedule-good card (a .p) (i .0) (i .1) (i .2) (i .3) e
+    schedule-good card (a .p) (i .0) (i .1) (i .2) (i .3) e
 
 returns-2 : tie.Need-returns-2
 returns-2 c =
@@ -89,8 +88,8 @@ schedule-line-spec =
     check-schedule-requires
     enum-told
     sub-job
-    add-advanced
-    advanced-requires
+    add-at
+    add-line
     enum-known-cause
     enum-told-2
     returns
