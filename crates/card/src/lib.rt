@@ -66,7 +66,7 @@ pub enum Reached {
     Fault(Cause, u32),
 }
 
-// A card's bytes and the line reached.
+// A card's bytes and the line reached in it.
 pub struct Reader<'a> {
     pub card: &'a [u8],
     pub reached: Reached,
@@ -105,6 +105,7 @@ pub fn read_card(card: &[u8]) -> Reading
     finish(next(next(next(next(next(next(new(card))))))))
 }
 
+// The first line of a card that is not too long.
 fn start(card: &[u8]) -> Reached
     ensures { λ r. ⌜ standing r ≡ startOf (now (card .entry)) ⌝ }
 {
@@ -128,7 +129,7 @@ fn start(card: &[u8]) -> Reached
     })
 }
 
-// The header's lines by their numbers.
+// The header's line at the place reached, by its number.
 fn line_at(card: &[u8], reached: Reached) -> Reached
     ensures { λ r. ⌜ standing r ≡ andThen (standing reached) (headerLine (now (card .entry))) ⌝ }
 {
@@ -219,12 +220,13 @@ fn schedule_line(card: &[u8], p: Progress) -> Reached
     }
 }
 
-// The lines after the header, which has to be read.
+// The lines after the header, if its last line is read.
 fn finish_at(card: &[u8], reached: Reached) -> Reading
     ensures { λ r. ⌜ told r ≡ andThen (standing reached) (lastLines (now (card .entry))) ⌝ }
 {
     match reached {
         Reached::Line(p) => {
+            // A reader may hold any card. In one that is not too long every line's number fits.
             if MAX_CARD < card.len() {
                 return Reading::Bad(Cause::Form, 0);
             }
