@@ -1,7 +1,7 @@
 -- What every good card's job keeps to, by the definitions alone. Assumes nothing.
-use Prim.Native.Nat.{ℕ, zero, suc, _+_, _/_, _%_, _≤_}
+use Prim.Native.Nat.{ℕ, zero, suc, _+_, _-_, _/_, _%_, _≤_, _<_}
 use Prim.Native.String.{String}
-use mathlib.Core.Path.{_≡_, refl, ap, sym, _∙_}
+use mathlib.Core.Path.{_≡_, refl, ap, ap₂, sym, subst, _∙_}
 use mathlib.Core.Bool.{Bool, true, false, _&&_}
 use mathlib.Core.List.{List, [], _∷_, map}
 use native.Mathlib.Omega.{arith}
@@ -13,32 +13,28 @@ use Rattle.bits.specs.Choice.{if_then_else_}
 use Rattle.text.specs.Ascii.{ascii}
 use Rattle.text.specs.Digits.{digit}
 use Rattle.text.specs.Numbers.{decimal, hexadecimal}
-use Rattle.text.specs.Lines.{Line, Entry, entry, missing, entryOf}
+use Rattle.text.specs.Lines.{Line, lines}
+use Rattle.text.specs.Places.{lineEnd, afterLines}
 use Rattle.text.specs.declared.Parsed.{Parsed}
 use Rattle.text.specs.declared.Parsed.the-variants.{Number, Nothing}
-use Rattle.card.specs.Card.{Field, value, fault, limited, cores, memory, entryAddress, steps, schedule, wordCount, word, every, digitsBelow, followed, read, onward, line, wordLines, noneLeft, content, cardSays, Left, Verdict, good, refused, Job, formFault, valueFault, maxCard, maxWord, maxCores, minMemory, maxMemory, maxSteps, maxDigits}
-use Rattle.card.specs.Answer.{job, jobAt, Bounds}
+use Rattle.text.proofs.Laws.{textAt}
+use Rattle.card.specs.Card.{Field, value, fault, limited, cores, memory, entryAddress, steps, schedule, wordCount, word, every, digitsBelow, Step, step, stop, first, onward, line, wordLines, noneLeft, content, cardSays, Left, Verdict, good, refused, Job, formFault, valueFault, maxCard, maxWord, maxCores, minMemory, maxMemory, maxSteps, maxDigits}
+use Rattle.card.specs.Answer.{placed, answered, more, wordsFrom, job, jobAt, Bounds}
+use Rattle.card.specs.Places.{left}
 use Rattle.card.specs.declared.Job as code
+use Rattle.card.proofs.Whole.{by-place}
 
-never : {A : Type 0} {f n : ℕ} {j : Job} → refused f n ≡ good j → A
+never : {A B : Type 0} {f n : ℕ} {j : B} → refused f n ≡ good j → A
 never e = absurd (let z : _≡_ {A = ℕ} 0 1 = cc in omega arith)
 
 no-value : {A B : Type 0} {f : ℕ} {v : B} → fault f ≡ value v → A
 no-value e = absurd (let z : _≡_ {A = ℕ} 0 1 = cc in omega arith)
 
 -- a good card's line has a text that means a value, and what follows is good
-module _ {A P : Type 0} (f : List ℕ → Field A) (n : ℕ) (k : A → Left → Verdict) {j : Job} (go : (v : A) (t : List ℕ) (l : Left) → f t ≡ value v → k v l ≡ good j → P) where
-  meant : (t : List ℕ) (ls : List Line) (x : Field A) → f t ≡ x → onward n (followed ls x) k ≡ good j → P
-  meant t ls (value v) e h = go v t (record { next = n + 1; rest = ls }) e h
-  meant t ls (fault x) e h = never h
-
-  went : (e : Entry) → onward n (read f e) k ≡ good j → P
-  went (entry t ls) h = meant t ls (f t) refl h
-  went missing h = never h
-
-by-line : {A P : Type 0} (key : String) (f : List ℕ → Field A) (l : Left) (k : A → Left → Verdict) {j : Job} → line key f l k ≡ good j
-    → ((v : A) (t : List ℕ) (l : Left) → f t ≡ value v → k v l ≡ good j → P) → P
-by-line key f l k h go = went f (l .next) k go (entryOf (ascii key) (l .rest)) h
+by-line : {A P : Type 0} (key : String) (f : List ℕ → Field A) (card : List ℕ) (at n : ℕ) (k : A → Left → Verdict Job) {j : Job} → line key f (left card at n) k ≡ good j
+    → ((v : A) → f (textAt (ascii key) card at) ≡ value v → at + length (ascii key) ≤ lineEnd card at → lineEnd card at < length card → k v (left card (lineEnd card at + 1) (n + 1)) ≡ good j → P)
+    → P
+by-line {P = P} key f card at n k {j} e go = by-place (λ s. onward n s k ≡ good j → P) (ascii key) f card at (λ m e. never e) go e
 
 record Within (low high m v : ℕ) : Type 0 where
   above : low ≤ v
@@ -63,36 +59,42 @@ digits-below : (n : ℕ) (t : List ℕ) → digitsBelow n t ≡ every (λ d. ltb
 digits-below n [] = refl
 digits-below n (b ∷ t) = ap (λ r. ltb (digit b) n && r) (digits-below n t)
 
--- 1 to 16 numbers, each of a core
-record Digits (n : ℕ) (s : List ℕ) : Type 0 where
+-- 1 to 16 numbers, each of a core, that a text says
+record Digits (n : ℕ) (t s : List ℕ) : Type 0 where
   some : 1 ≤ length s
   few : length s ≤ maxDigits
   named : T (every (λ d. ltb d n) s)
+  said : map digit t ≡ s
 
 schedule-tests : (n : ℕ) (t s : List ℕ) (a b c d : Bool) → leb 1 (length t) ≡ a → leb (length t) maxDigits ≡ b → digitsBelow n t ≡ d
-    → _≡_ {A = Field (List ℕ)} (if (a && b) && c then if d then value (map digit t) else fault valueFault else fault formFault) (value s) → Digits n s
+    → _≡_ {A = Field (List ℕ)} (if (a && b) && c then if d then value (map digit t) else fault valueFault else fault formFault) (value s) → Digits n t s
 schedule-tests n t s true true true true p q r e =
     let m : map digit t ≡ s = cc in
     let l : length (map digit t) ≡ length t = length-map t digit in
-    let h : Digits n (map digit t) = record { some = rw l (leb-true _ _ p); few = rw l (leb-true _ _ q); named = rw (sym (digits-below n t) ∙ r) tt } in
+    let h : Digits n t (map digit t) = record { some = rw l (leb-true _ _ p); few = rw l (leb-true _ _ q); named = rw (sym (digits-below n t) ∙ r) tt; said = refl } in
     rw m at h
 schedule-tests n t s true true true false p q r e = no-value e
 schedule-tests n t s true true false d p q r e = no-value e
 schedule-tests n t s true false c d p q r e = no-value e
 schedule-tests n t s false b c d p q r e = no-value e
 
-schedule-value : (n : ℕ) (t : List ℕ) {s : List ℕ} → schedule n t ≡ value s → Digits n s
+schedule-value : (n : ℕ) (t : List ℕ) {s : List ℕ} → schedule n t ≡ value s → Digits n t s
 schedule-value n t {s} e = schedule-tests n t s (leb 1 (length t)) (leb (length t) maxDigits) (digitsBelow 10 t) (digitsBelow n t) refl refl refl e
 
--- the w lines of a good card are as many as it says
-by-words : {P : Type 0} (n : ℕ) (l : Left) (k : List ℕ → Left → Verdict) {j : Job} → wordLines n l k ≡ good j
-    → ((ws : List ℕ) (l : Left) → length ws ≡ n → k ws l ≡ good j → P) → P
-unfolding wordLines
-by-words zero l k e go = go [] l refl e
-by-words (suc n) l k e go =
-    by-line "w=" word l (λ w l. wordLines n l (λ ws. k (w ∷ ws))) e (λ w t l m e. by-words n l (λ ws. k (w ∷ ws)) e (λ ws l h e. go (w ∷ ws) l (ap suc h) e))
+-- the w lines of a good card are as many as it says, and stand where they are looked for
+by-word : {P : Type 0} (n m : ℕ) (s : Step ℕ) (k : List ℕ → Left → Verdict Job) {j : Job} → onward m s (λ w l. wordLines n l (λ ws. k (w ∷ ws))) ≡ good j
+    → ((l : Left) (k : List ℕ → Left → Verdict Job) → wordLines n l k ≡ good j → ((ws : List ℕ) (r : Left) → length ws ≡ n → wordsFrom n (l .rest) ≡ ws → k ws r ≡ good j → P) → P)
+    → ((ws : List ℕ) (r : Left) → length ws ≡ suc n → more s (wordsFrom n) ≡ ws → k ws r ≡ good j → P) → P
+by-word n m (step w ls) k e ih go = ih (record { next = m + 1; rest = ls }) (λ ws. k (w ∷ ws)) e (λ ws r h f. go (w ∷ ws) r (ap suc h) (ap (λ ws. w ∷ ws) f))
+by-word n m (stop f) k e ih go = never e
 
-none-good : (ls : List Line) (n : ℕ) {v : Verdict} {j : Job} → noneLeft ls n v ≡ good j → v ≡ good j
+by-words : {P : Type 0} (n : ℕ) (l : Left) (k : List ℕ → Left → Verdict Job) {j : Job} → wordLines n l k ≡ good j
+    → ((ws : List ℕ) (r : Left) → length ws ≡ n → wordsFrom n (l .rest) ≡ ws → k ws r ≡ good j → P) → P
+unfolding wordLines wordsFrom
+by-words zero l k e go = go [] l refl refl e
+by-words (suc n) l k e go = by-word n (l .next) (first (ascii "w=") word (l .rest)) k e (λ l k. by-words n l k) go
+
+none-good : (ls : List Line) (n : ℕ) {v : Verdict Job} {j : Job} → noneLeft ls n v ≡ good j → v ≡ good j
 none-good [] n e = e
 none-good (l ∷ ls) n e = never e
 
@@ -110,62 +112,111 @@ pub record Sound (j : Job) : Type 0 where
   pub cores-named : T (every (λ d. ltb d (j .cores)) (j .schedule))
   pub words-high : length (j .words) ≤ j .memory / 4
 
-sound : (l : Left) (j : Job) → content l ≡ good j → Sound j
-unfolding content
-sound l j e =
-    by-line "cores=" cores l _ e (λ a ta l ea e.
-    by-line "memory=" memory l _ e (λ b tb l eb e.
-    by-line "entry=" entryAddress l _ e (λ c tc l ec e.
-    by-line "steps=" steps l _ e (λ d td l ed e.
-    by-line "schedule=" (schedule a) l _ e (λ s ts l es e.
-    by-line "words=" (wordCount b) l _ e (λ n tn l en e.
-    by-words n l _ e (λ ws l h e.
+-- a card's job: its own lists keep to the limits, and they stand at its places
+record Read (card : List ℕ) (j : Job) : Type 0 where
+  sound : Sound j
+  inside : placed card j .schedule + placed card j .digits ≤ length card
+  stands : jobAt card (placed card j) ≡ j
+
+-- the digits from a key up to the line's end
+text-digits : (key card : List ℕ) (at n : ℕ) {s : List ℕ} → at + length key ≤ lineEnd card at → lineEnd card at < length card → Digits n (textAt key card at) s
+    → (length s ≡ lineEnd card at - (at + length key)) × (map digit (take (length s) (drop (at + length key) card)) ≡ s)
+text-digits key card at n {s} h g d =
+    let m : length s ≡ lineEnd card at - (at + length key) =
+    ap length (sym (d .said)) ∙ length-map (textAt key card at) digit ∙ length-take-le (lineEnd card at - (at + length key)) (drop (at + length key) card) (simp length-drop (omega arith)) in
+    (m, ap (λ i. map digit (take i (drop (at + length key) card))) m ∙ d .said)
+
+-- the text after a key, on the line after n others
+abbrev on : List ℕ → String → ℕ → List ℕ
+on card key n = textAt (ascii key) card (afterLines card n)
+
+content-read : (card : List ℕ) (j : Job) → content (left card 0 1) ≡ good j → Read card j
+unfolding content afterLines
+content-read card j e =
+    by-line "cores=" cores card (afterLines card 0) 1 _ e (λ a ea _ _ e.
+    by-line "memory=" memory card (afterLines card 1) 2 _ e (λ b eb _ _ e.
+    by-line "entry=" entryAddress card (afterLines card 2) 3 _ e (λ c ec _ _ e.
+    by-line "steps=" steps card (afterLines card 3) 4 _ e (λ d ed _ _ e.
+    by-line "schedule=" (schedule a) card (afterLines card 4) 5 _ e (λ s es hs gs e.
+    by-line "words=" (wordCount b) card (afterLines card 5) 6 _ e (λ n en _ _ e.
+    by-words n _ _ e (λ ws l h f e.
     let made : good (job a b c d s ws) ≡ good j = none-good (l .rest) (l .next) e in
     let is : job a b c d s ws ≡ j = cc in
-    let ca = limited-value 1 maxCores 1 (decimal ta) ea in
-    let cb = limited-value minMemory maxMemory 4 (decimal tb) eb in
-    let cc′ = limited-value 0 maxWord 4 (hexadecimal tc) ec in
-    let cd = limited-value 0 maxSteps 1 (decimal td) ed in
-    let cs = schedule-value a ts es in
-    let cn = limited-value 0 (b / 4) 1 (decimal tn) en in
-    let r : Sound (job a b c d s ws) = record {
-      cores-low = ca .above;
-      cores-high = ca .below;
-      memory-low = cb .above;
-      memory-high = cb .below;
-      memory-multiple = cb .multiple;
-      entry-multiple = cc′ .multiple;
-      steps-high = cd .below;
-      digits-low = cs .some;
-      digits-high = cs .few;
-      cores-named = cs .named;
-      words-high = rw h (cn .below);
+    let ca = limited-value 1 maxCores 1 (decimal (on card "cores=" 0)) ea in
+    let cb = limited-value minMemory maxMemory 4 (decimal (on card "memory=" 1)) eb in
+    let cc′ = limited-value 0 maxWord 4 (hexadecimal (on card "entry=" 2)) ec in
+    let cd = limited-value 0 maxSteps 1 (decimal (on card "steps=" 3)) ed in
+    let cs = schedule-value a (on card "schedule=" 4) es in
+    let cn = limited-value 0 (b / 4) 1 (decimal (on card "words=" 5)) en in
+    let q = text-digits (ascii "schedule=") card (afterLines card 4) a hs gs cs in
+    let w : wordsFrom (length ws) (lines (drop (afterLines card 6) card)) ≡ ws = ap (λ m. wordsFrom m (lines (drop (afterLines card 6) card))) h ∙ f in
+    let r : Read card (job a b c d s ws) = record {
+      sound = record {
+        cores-low = ca .above;
+        cores-high = ca .below;
+        memory-low = cb .above;
+        memory-high = cb .below;
+        memory-multiple = cb .multiple;
+        entry-multiple = cc′ .multiple;
+        steps-high = cd .below;
+        digits-low = cs .some;
+        digits-high = cs .few;
+        cores-named = cs .named;
+        words-high = rw h (cn .below);
+      };
+      inside = omega (arith, q .0, hs, gs);
+      stands = ap₂ (job a b c d) (q .1) w;
     } in
     rw is at r)))))))
 
-card-sound : (card : List ℕ) (j : Job) (b : Bool) → leb (length card) maxCard ≡ b → cardSays card ≡ good j → Sound j
+card-read : (card : List ℕ) (j : Job) (b : Bool) → leb (length card) maxCard ≡ b → cardSays card ≡ good j → Read card j
 unfolding cardSays
-card-sound card j true t e = sound _ j (rw t at e)
-card-sound card j false t e = never (rw t at e)
+card-read card j true t e = content-read card j (rw t at e)
+card-read card j false t e = never (rw t at e)
+
+says-read : (card : List ℕ) (j : Job) → cardSays card ≡ good j → Read card j
+says-read card j e = card-read card j (leb (length card) maxCard) refl e
 
 pub says-sound : (card : List ℕ) (j : Job) → cardSays card ≡ good j → Sound j
-says-sound card j e = card-sound card j (leb (length card) maxCard) refl e
+says-sound card j e = says-read card j e .sound
 
-pub says-bounds : (card : List ℕ) (j : code.Job) → cardSays card ≡ good (jobAt card j) → j .schedule + j .digits ≤ length card → Bounds card j
-says-bounds card j e h =
-    let s = says-sound card (jobAt card j) e in
-    let n : length (map digit (take (j .digits) (drop (j .schedule) card))) ≡ j .digits =
-    length-map (take (j .digits) (drop (j .schedule) card)) digit ∙ length-take-le (j .digits) (drop (j .schedule) card) (simp length-drop (omega arith)) in
-    record {
-      cores-low = s .cores-low;
-      cores-high = s .cores-high;
-      memory-low = s .memory-low;
-      memory-high = s .memory-high;
-      memory-multiple = s .memory-multiple;
-      entry-multiple = s .entry-multiple;
-      steps-high = s .steps-high;
-      digits-low = omega (arith, n, s .digits-low);
-      digits-high = omega (arith, n, s .digits-high);
-      digits-placed = h;
-      words-fit = omega (arith, s .words-high, s .memory-multiple);
-    }
+-- ---- what the reader's answer says of the card
+
+-- a good answer is what the card says, by its places
+good-by : (card : List ℕ) (v : Verdict Job) (j : code.Job) → cardSays card ≡ v → good j ≡ answered card v → (cardSays card ≡ good (jobAt card j)) × (j .schedule + j .digits ≤ length card)
+good-by card (good i) j e h =
+    let r = says-read card i e in
+    let p : placed card i ≡ j = cc in
+    (e ∙ ap good (sym (r .stands) ∙ ap (jobAt card) p), subst (λ (i : code.Job). i .schedule + i .digits ≤ length card) p (r .inside))
+good-by card (refused f n) j e h = never (sym h)
+
+bad-by : (card : List ℕ) (v : Verdict Job) {f n : ℕ} → refused f n ≡ answered card v → v ≡ refused f n
+bad-by card (good i) h = never h
+bad-by card (refused g m) {f} {n} h = let p : g ≡ f = cc in let q : m ≡ n = cc in ap₂ refused p q
+
+pub bad-says : (card : List ℕ) {f n : ℕ} → refused f n ≡ answered card (cardSays card) → cardSays card ≡ refused f n
+bad-says card h = bad-by card (cardSays card) h
+
+module _ (card : List ℕ) (j : code.Job) (h : good j ≡ answered card (cardSays card)) where
+  pub good-says : cardSays card ≡ good (jobAt card j)
+  good-says = good-by card (cardSays card) j refl h .0
+
+  pub good-bounds : Bounds card j
+  good-bounds =
+      let s = says-sound card (jobAt card j) good-says in
+      let i : j .schedule + j .digits ≤ length card = good-by card (cardSays card) j refl h .1 in
+      let n : length (map digit (take (j .digits) (drop (j .schedule) card))) ≡ j .digits =
+      length-map (take (j .digits) (drop (j .schedule) card)) digit ∙ length-take-le (j .digits) (drop (j .schedule) card) (simp length-drop (omega arith)) in
+      record {
+        cores-low = s .cores-low;
+        cores-high = s .cores-high;
+        memory-low = s .memory-low;
+        memory-high = s .memory-high;
+        memory-multiple = s .memory-multiple;
+        entry-multiple = s .entry-multiple;
+        steps-high = s .steps-high;
+        digits-low = omega (arith, n, s .digits-low);
+        digits-high = omega (arith, n, s .digits-high);
+        digits-placed = i;
+        words-fit = omega (arith, s .words-high, s .memory-multiple);
+      }

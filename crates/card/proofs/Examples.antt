@@ -7,7 +7,7 @@ use lib.Dec.{T, eqb}
 use Rattle.text.specs.Ascii.{ascii}
 use Rattle.text.specs.Digits.{digit}
 use Rattle.text.specs.Lines.{lines, entryOf}
-use Rattle.card.specs.Card.{Verdict, good, refused, wordLines, content, cardSays}
+use Rattle.card.specs.Card.{Job, Verdict, good, refused, wordLines, content, cardSays}
 use Rattle.card.specs.Answer.{job}
 
 same : List ℕ → List ℕ → Bool
@@ -16,7 +16,7 @@ same [] (y ∷ ys) = false
 same (x ∷ xs) [] = false
 same (x ∷ xs) (y ∷ ys) = eqb x y && same xs ys
 
-agree : Verdict → Verdict → Bool
+agree : Verdict Job → Verdict Job → Bool
 agree (good a) (good b) =
     eqb (a .cores) (b .cores) && eqb (a .memory) (b .memory) && eqb (a .entry) (b .entry) && eqb (a .steps) (b .steps) && same (a .schedule) (b .schedule) && same (a .words) (b .words)
 agree (good a) (refused f n) = false
@@ -25,9 +25,9 @@ agree (refused f n) (refused g m) = eqb f g && eqb n m
 
 record Example : Type 0 where
   card : String
-  says : Verdict
+  says : Verdict Job
 
-say : String → Verdict → Example
+say : String → Verdict Job → Example
 say card v = record { card = card; says = v }
 
 right : List Example → Bool

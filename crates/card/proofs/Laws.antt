@@ -1,51 +1,65 @@
--- Laws of the definitions of specs/, as the reader uses them. Assumes nothing.
+-- Laws of a card's lines, as the functions that read them use them. Assumes nothing.
 use Prim.Native.Nat.{ℕ, zero, suc, _+_, _-_, _≤_, _<_}
-use Prim.Native.String.{String}
 use mathlib.Core.Path.{_≡_, refl, ap, sym, _∙_}
 use mathlib.Core.Bool.{Bool, true, false, _&&_}
-use mathlib.Core.List.{List, [], _∷_}
+use mathlib.Core.List.{List, [], _∷_, map}
 use native.Mathlib.Numerals.{add-one}
 use native.Mathlib.Omega.{arith}
 use native.Mathlib.Nat.{not-suc-le-zero}
-use borrow.Author.Tests.{le-leb, lt-leb}
 use lib.Dec.{eqb}
-use lib.ListN.{length, drop, getD, drop-of-length-le, length-drop}
-use lib.Seq.{drop-cons}
+use lib.ListN.{length, take, drop, getD, drop-of-length-le, length-drop, length-map}
+use lib.Seq.{drop-cons, length-take-le}
 use Rattle.text.specs.Ascii.{ascii}
+use Rattle.text.specs.Digits.{digit}
 use Rattle.text.specs.Lines.{Line, ended, cut, onto, lines, entryOf}
-use Rattle.text.specs.Places.{foundIn}
+use Rattle.text.specs.Places.{lineEnd, foundIn}
 use Rattle.text.specs.declared.Found.{Found}
-use Rattle.card.specs.Card.{Field, Step, step, stop, followed, read, first, onward, line, word, wordLines, noneLeft, content, cardSays, cores, every, Left, Verdict, good, refused, Job, formFault, maxCard}
-use Rattle.card.specs.Answer.{more, wordsFrom, job, ReadCard}
-use Rattle.card.specs.Places.{stepIn, fieldIn, Next, Ahead, left, fromWordLines, fromCount, fromSchedule, fromSteps, fromEntry, fromMemory, cardFrom, ReadFrom}
-use Rattle.card.specs.declared.Reading.{Reading}
+use Rattle.card.specs.Card.{Field, step, stop, followed, read, first, schedule, word, wordLines, noneLeft, every, Left, Verdict, good, refused, formFault}
+use Rattle.card.specs.Answer.{refusal}
+use Rattle.card.specs.Places.{stepIn, fieldIn, Next, Ahead}
+use Rattle.card.specs.Reader.{header, putSchedule, scheduleLine}
+use Rattle.card.specs.declared.Job.{Job}
+use Rattle.card.specs.declared.Progress.{Progress}
 use Rattle.card.specs.declared.Field.the-variants as F
 use Rattle.card.specs.declared.Field as D
+use Rattle.card.specs.declared.Cause.{Cause}
 
 -- a field's number with the lines after it
 pub step-of : (card : List ℕ) (n : ℕ) (r : D.Field) → Next n r → stepIn card r ≡ followed (lines (drop n card)) (fieldIn r)
 step-of card n (F.Value v next) e = ap (λ m. step v (lines (drop m card))) e
 step-of card n (F.Fault c) e = refl
 
-pub ahead : (card : List ℕ) (at n : ℕ) (r : D.Field) → Next n r → at < n → n ≤ length card → Ahead card at r
-ahead card at n (F.Value v next) e h k = (omega arith, omega arith)
+pub ahead : (card : List ℕ) (at n : ℕ) (r : D.Field) → Next n r → n ≡ lineEnd card at + 1 → n ≤ length card → Ahead card at r
+ahead card at n (F.Value v next) e h k = (e ∙ h, rw e k)
 ahead card at n (F.Fault c) e h k = tt
 
 -- the line that was found, or was not
 pub first-found : {A : Type 0} (key : List ℕ) (f : List ℕ → Field A) (s : List ℕ) (ls : List Line) {a b : Found} → foundIn s a ≡ entryOf key ls → a ≡ b → first key f ls ≡ read f (foundIn s b)
 first-found key f s ls e g = ap (read f) (sym e ∙ ap (foundIn s) g)
 
-module _ {A : Type 0} (key : String) (f : List ℕ → Field A) (l : Left) (k : A → Left → Verdict) where
-  pub line-step : {v : A} {ls : List Line} → first (ascii key) f (l .rest) ≡ step v ls → line key f l k ≡ k v (record { next = l .next + 1; rest = ls })
-  line-step e = ap (λ s. onward (l .next) s k) e
+-- the reader after a line with a number
+module _ (key : List ℕ) (f : List ℕ → Field ℕ) (put : ℕ → Job → Job) (card : List ℕ) (p : Progress) {r : D.Field} (s : stepIn card r ≡ first key f (lines (drop (p .at) card))) where
+  pub header-good : {v next : ℕ} → Ahead card (p .at) r → r ≡ F.Value v next → good (record { at = next; line = p .line + 1; job = put v (p .job) }) ≡ header key f put card p
+  header-good {v} {next} h e =
+      let g : Ahead card (p .at) (F.Value v next) = rw e at h in
+      let t : first key f (lines (drop (p .at) card)) ≡ step v (lines (drop next card)) = sym s ∙ ap (stepIn card) e in
+      rw (t, g .0)
 
-  pub line-stop : {n : ℕ} → first (ascii key) f (l .rest) ≡ stop n → line key f l k ≡ refused n (l .next)
-  line-stop e = ap (λ s. onward (l .next) s k) e
+  pub header-bad : {c : Cause} → r ≡ F.Fault c → refused (refusal c) (p .line) ≡ header key f put card p
+  header-bad {c} e = let t : first key f (lines (drop (p .at) card)) ≡ stop (refusal c) = sym s ∙ ap (stepIn card) e in rw t
 
--- the content, by its first line and the rest
-pub content-from : (l : Left) → content l ≡ line "cores=" cores l (λ v. fromMemory (job v) v)
-unfolding content fromMemory fromEntry fromSteps fromSchedule fromCount fromWordLines
-content-from l = refl
+-- the reader after the schedule's line
+module _ (card : List ℕ) (p : Progress) where
+  pub schedule-good : {from end : ℕ} → from ≡ p .at + length (ascii "schedule=") → end ≡ lineEnd card (p .at) → from ≤ end → end < length card
+      → first (ascii "schedule=") (schedule (p .job .cores)) (lines (drop (p .at) card)) ≡ step (map digit (take (end - from) (drop from card))) (lines (drop (end + 1) card))
+      → good (record { at = end + 1; line = p .line + 1; job = putSchedule from (end - from) (p .job) }) ≡ scheduleLine card p
+  schedule-good {from} {end} e h k l t =
+      let n : length (map digit (take (end - from) (drop from card))) ≡ end - from =
+      length-map (take (end - from) (drop from card)) digit ∙ length-take-le (end - from) (drop from card) (simp length-drop (omega arith)) in
+      rw (t, n, e, h)
+
+  pub schedule-bad : {n : ℕ} → first (ascii "schedule=") (schedule (p .job .cores)) (lines (drop (p .at) card)) ≡ stop n → refused n (p .line) ≡ scheduleLine card p
+  schedule-bad t = rw t
 
 module _ (f : ℕ → Bool) (i : ℕ) (t : List ℕ) where
   pub every-at : i < length t → every f (drop i t) ≡ (f (getD t i 0) && every f (drop (i + 1) t))
@@ -54,93 +68,44 @@ module _ (f : ℕ → Bool) (i : ℕ) (t : List ℕ) where
   pub every-end : length t ≤ i → every f (drop i t) ≡ true
   every-end h = rw (drop-of-length-le t)
 
--- w lines: what is left after them, or the first that is bad
-pub data Tail : Type 0 where
-  whole : Left → Tail
-  broken : ℕ → ℕ → Tail
+-- w lines one by one
+module _ {B : Type 0} (k : Left → Verdict B) where
+  pub words-next : (n : ℕ) (l : Left) {w : ℕ} {ls : List Line} → 0 < n → first (ascii "w=") word (l .rest) ≡ step w ls
+      → wordLines n l (λ ws. k) ≡ wordLines (n - 1) (record { next = l .next + 1; rest = ls }) (λ ws. k)
+  unfolding wordLines
+  words-next zero l h e = absurd (not-suc-le-zero h)
+  words-next (suc n) l h e = let m : suc n - 1 ≡ n = omega arith in simp (e, m)
 
-abbrev pub beyond : ℕ → Step ℕ → (Left → Tail) → Tail
-beyond n (step w ls) k = k (record { next = n + 1; rest = ls })
-beyond n (stop f) k = broken f n
+  pub words-stop : (n : ℕ) (l : Left) {f : ℕ} → 0 < n → first (ascii "w=") word (l .rest) ≡ stop f → wordLines n l (λ ws. k) ≡ refused f (l .next)
+  unfolding wordLines
+  words-stop zero l h e = absurd (not-suc-le-zero h)
+  words-stop (suc n) l h e = simp e
 
-unfoldable pub tailOf : ℕ → Left → Tail
-tailOf zero l = whole l
-tailOf (suc n) l = beyond (l .next) (first (ascii "w=") word (l .rest)) (tailOf n)
-
-abbrev pub after : Tail → (Left → Verdict) → Verdict
-after (whole l) k = k l
-after (broken f n) k = refused f n
-
-words-step : (n m : ℕ) (s : Step ℕ) (k : List ℕ → Left → Verdict)
-    → ((l : Left) (k : List ℕ → Left → Verdict) → wordLines n l k ≡ after (tailOf n l) (k (wordsFrom n (l .rest))))
-    → onward m s (λ w l. wordLines n l (λ ws. k (w ∷ ws))) ≡ after (beyond m s (tailOf n)) (k (more s (wordsFrom n)))
-words-step n m (step w ls) k ih = ih (record { next = m + 1; rest = ls }) (λ ws. k (w ∷ ws))
-words-step n m (stop f) k ih = refl
-
-words-tail : (n : ℕ) (l : Left) (k : List ℕ → Left → Verdict) → wordLines n l k ≡ after (tailOf n l) (k (wordsFrom n (l .rest)))
-unfolding wordLines tailOf wordsFrom
-words-tail zero l k = refl
-words-tail (suc n) l k = words-step n (l .next) (first (ascii "w=") word (l .rest)) k (words-tail n)
-
--- what follows the w lines
-abbrev pub close : (List ℕ → Job) → List ℕ → Left → Verdict
-close g ws l = noneLeft (l .rest) (l .next) (good (g ws))
-
-pub word-tail : (g : List ℕ → Job) (n : ℕ) (l : Left) (t : Tail) → tailOf n l ≡ t → fromWordLines g n l ≡ after t (close g (wordsFrom n (l .rest)))
-unfolding fromWordLines
-word-tail g n l t e = words-tail n l (close g) ∙ ap (λ t. after t (close g (wordsFrom n (l .rest)))) e
-
-pub tail-step : (n : ℕ) (l : Left) {w : ℕ} {ls : List Line} → 0 < n → first (ascii "w=") word (l .rest) ≡ step w ls → tailOf n l ≡ tailOf (n - 1) (record { next = l .next + 1; rest = ls })
-unfolding tailOf
-tail-step zero l h e = absurd (not-suc-le-zero h)
-tail-step (suc n) l h e = let m : suc n - 1 ≡ n = omega arith in simp (e, m)
-
-pub tail-stop : (n : ℕ) (l : Left) {f : ℕ} → 0 < n → first (ascii "w=") word (l .rest) ≡ stop f → tailOf n l ≡ broken f (l .next)
-unfolding tailOf
-tail-stop zero l h e = absurd (not-suc-le-zero h)
-tail-stop (suc n) l h e = simp e
-
-pub tail-done : (n : ℕ) (l : Left) → n ≤ 0 → tailOf n l ≡ whole l
-unfolding tailOf
-tail-done zero l h = refl
-tail-done (suc n) l h = absurd (not-suc-le-zero h)
+  pub words-done : (n : ℕ) (l : Left) → n ≤ 0 → wordLines n l (λ ws. k) ≡ k l
+  unfolding wordLines
+  words-done zero l h = refl
+  words-done (suc n) l h = absurd (not-suc-le-zero h)
 
 -- nothing is left at the card's end, and only there
-over-onto : (b : ℕ) (ls : List Line) (n : ℕ) (v : Verdict) → noneLeft (onto b ls) n v ≡ refused formFault n
-over-onto b [] n v = refl
-over-onto b (ended l ∷ ls) n v = refl
-over-onto b (cut l ∷ ls) n v = refl
+module _ {B : Type 0} (n : ℕ) (v : Verdict B) where
+  over-onto : (b : ℕ) (ls : List Line) → noneLeft (onto b ls) n v ≡ refused formFault n
+  over-onto b [] = refl
+  over-onto b (ended l ∷ ls) = refl
+  over-onto b (cut l ∷ ls) = refl
 
-over-cons : (b : ℕ) (s : List ℕ) (t : Bool) → eqb b 10 ≡ t → (n : ℕ) (v : Verdict) → noneLeft (lines (b ∷ s)) n v ≡ refused formFault n
-unfolding lines
-over-cons b s true e n v = simp e
-over-cons b s false e n v = rw e (over-onto b (lines s) n v)
-
-over : (s : List ℕ) → 0 < length s → (n : ℕ) (v : Verdict) → noneLeft (lines s) n v ≡ refused formFault n
-over [] h n v = absurd (not-suc-le-zero h)
-over (b ∷ s) h n v = over-cons b s (eqb b 10) refl n v
-
-module _ (card : List ℕ) (at n : ℕ) (v : Verdict) where
-  pub left-over : at < length card → noneLeft (lines (drop at card)) n v ≡ refused formFault n
-  left-over h = over (drop at card) (simp length-drop (omega arith)) n v
-
-  pub none-left : length card ≤ at → noneLeft (lines (drop at card)) n v ≡ v
+  over-cons : (b : ℕ) (s : List ℕ) (t : Bool) → eqb b 10 ≡ t → noneLeft (lines (b ∷ s)) n v ≡ refused formFault n
   unfolding lines
-  none-left h = rw (drop-of-length-le card h)
+  over-cons b s true e = simp e
+  over-cons b s false e = rw e (over-onto b (lines s))
 
-module _ (card : List ℕ) (at n : ℕ) where
-  pub card-long : maxCard < length card → cardFrom card at n ≡ refused formFault 0
-  unfolding cardFrom
-  card-long h = simp (lt-leb _ _ h)
+  over : (s : List ℕ) → 0 < length s → noneLeft (lines s) n v ≡ refused formFault n
+  over [] h = absurd (not-suc-le-zero h)
+  over (b ∷ s) h = over-cons b s (eqb b 10) refl
 
-  pub card-lines : length card ≤ maxCard → cardFrom card at n ≡ content (left card at n)
-  unfolding cardFrom
-  card-lines h = simp (le-leb _ _ h)
+  module _ (card : List ℕ) (at : ℕ) where
+    pub left-over : at < length card → noneLeft (lines (drop at card)) n v ≡ refused formFault n
+    left-over h = over (drop at card) (simp length-drop (omega arith))
 
--- a whole card is read from its first byte and line 1 on
-pub card-whole : (card : List ℕ) → cardFrom card 0 1 ≡ cardSays card
-unfolding cardFrom cardSays
-card-whole card = refl
-
-pub read-whole : {c s : List ℕ} {at n : ℕ} {r : Reading} → c ≡ s → at ≡ 0 → n ≡ 1 → ReadFrom c at n r → ReadCard s r
-read-whole {c} {s} {at} {n} {r} p q e f = let g : ReadFrom s 0 1 r = rw (p, q, e) at f in record { says = g .says ∙ card-whole s; placed = g .placed }
+    pub none-left : length card ≤ at → noneLeft (lines (drop at card)) n v ≡ v
+    unfolding lines
+    none-left h = rw (drop-of-length-le card h)

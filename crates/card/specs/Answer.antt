@@ -6,11 +6,11 @@ use lib.ListN.{length, take, drop}
 use Rattle.text.specs.Ascii.{ascii}
 use Rattle.text.specs.Digits.{digit}
 use Rattle.text.specs.Lines.{Line, lines}
-use Rattle.card.specs.Card.{Step, step, stop, first, word, Verdict, good, refused, imageFault, formFault, valueFault, maxCores, minMemory, maxMemory, maxSteps, maxDigits, cardSays}
-use Rattle.card.specs.Card as paper
+use Rattle.text.specs.Places.{afterLines}
+use Rattle.card.specs.Card.{Step, step, stop, first, word, Job, Verdict, good, refused, imageFault, formFault, valueFault, maxCores, minMemory, maxMemory, maxSteps, maxDigits}
 use Rattle.card.specs.declared.Cause.{Cause}
 use Rattle.card.specs.declared.Cause.the-variants.{Image, Form, Limit}
-use Rattle.card.specs.declared.Job.{Job}
+use Rattle.card.specs.declared.Job as code
 use Rattle.card.specs.declared.Reading.{Reading}
 use Rattle.card.specs.declared.Reading.the-variants.{Good, Bad}
 
@@ -19,6 +19,33 @@ abbrev pub refusal : Cause → ℕ
 refusal Image = imageFault
 refusal Form = formFault
 refusal Limit = valueFault
+
+-- an answer with its cause's number
+abbrev pub told : Reading → Verdict code.Job
+told (Good j) = good j
+told (Bad c n) = refused (refusal c) n
+
+-- what comes of something good; a refusal stays
+abbrev pub andThen : {A B : Type 0} → Verdict A → (A → Verdict B) → Verdict B
+andThen (good a) k = k a
+andThen (refused f n) k = refused f n
+
+-- a job by its places in the card: four lines stand before the schedule's, six before the first w line
+abbrev pub placed : List ℕ → Job → code.Job
+placed card j = record {
+  cores = j .cores;
+  memory = j .memory;
+  entry = j .entry;
+  steps = j .steps;
+  schedule = afterLines card 4 + length (ascii "schedule=");
+  digits = length (j .schedule);
+  words = length (j .words);
+  image = afterLines card 6;
+}
+
+-- the answer where a card says v
+abbrev pub answered : List ℕ → Verdict Job → Verdict code.Job
+answered card v = andThen v (λ j. good (placed card j))
 
 -- the words of the first n lines, up to the first that is bad
 abbrev pub more : Step ℕ → (List Line → List ℕ) → List ℕ
@@ -30,33 +57,20 @@ wordsFrom zero ls = []
 wordsFrom (suc n) ls = more (first (ascii "w=") word ls) (wordsFrom n)
 
 -- the digits that a job places, as core numbers, and the words of its lines
-abbrev pub scheduleAt : List ℕ → Job → List ℕ
+abbrev pub scheduleAt : List ℕ → code.Job → List ℕ
 scheduleAt card j = map digit (take (j .digits) (drop (j .schedule) card))
 
-abbrev pub wordsAt : List ℕ → Job → List ℕ
+abbrev pub wordsAt : List ℕ → code.Job → List ℕ
 wordsAt card j = wordsFrom (j .words) (lines (drop (j .image) card))
 
-abbrev pub job : ℕ → ℕ → ℕ → ℕ → List ℕ → List ℕ → paper.Job
+abbrev pub job : ℕ → ℕ → ℕ → ℕ → List ℕ → List ℕ → Job
 job cores memory entry steps schedule words = record { cores = cores; memory = memory; entry = entry; steps = steps; schedule = schedule; words = words }
 
-abbrev pub jobAt : List ℕ → Job → paper.Job
+abbrev pub jobAt : List ℕ → code.Job → Job
 jobAt card j = job (j .cores) (j .memory) (j .entry) (j .steps) (scheduleAt card j) (wordsAt card j)
 
-abbrev pub readingIn : List ℕ → Reading → Verdict
-readingIn card (Good j) = good (jobAt card j)
-readingIn card (Bad c n) = refused (refusal c) n
-
--- the schedule's digits stand in the card
-abbrev pub Placed : List ℕ → Reading → Type 0
-Placed card (Good j) = j .schedule + j .digits ≤ length card
-Placed card (Bad c n) = Unit
-
-pub record ReadCard (card : List ℕ) (r : Reading) : Type 0 where
-  pub says : readingIn card r ≡ cardSays card
-  pub placed : Placed card r
-
 -- what a good card's job keeps to, for those who run it
-pub record Bounds (card : List ℕ) (j : Job) : Type 0 where
+pub record Bounds (card : List ℕ) (j : code.Job) : Type 0 where
   pub cores-low : 1 ≤ j .cores
   pub cores-high : j .cores ≤ maxCores
   pub memory-low : minMemory ≤ j .memory

@@ -121,10 +121,10 @@ pub record Job : Type 0 where
   pub schedule : List ℕ
   pub words : List ℕ
 
--- the job, or the refusal's number and its line's
-pub data Verdict : Type 0 where
-  good : Job → Verdict
-  refused : ℕ → ℕ → Verdict
+-- what was read, or the refusal's number and its line's
+pub data Verdict (A : Type 0) : Type 0 where
+  good : A → Verdict A
+  refused : ℕ → ℕ → Verdict A
 
 -- "Lines count from 1; a missing one has the number it would have": the number of the next line, and the lines that are left
 pub record Left : Type 0 where
@@ -132,26 +132,26 @@ pub record Left : Type 0 where
   pub rest : List Line
 
 -- a line's value is handed to k with what is left, its refusal has its number
-abbrev pub onward : {A : Type 0} → ℕ → Step A → (A → Left → Verdict) → Verdict
+abbrev pub onward : {A B : Type 0} → ℕ → Step A → (A → Left → Verdict B) → Verdict B
 onward n (step v ls) k = k v (record { next = n + 1; rest = ls })
 onward n (stop f) k = refused f n
 
 -- the next line has that key and says v by f; k goes on with v and with what is left
-abbrev pub line : {A : Type 0} → String → (List ℕ → Field A) → Left → (A → Left → Verdict) → Verdict
+abbrev pub line : {A B : Type 0} → String → (List ℕ → Field A) → Left → (A → Left → Verdict B) → Verdict B
 line key f left k = onward (left .next) (first (ascii key) f (left .rest)) k
 
 -- "then that many w lines"
-unfoldable pub wordLines : ℕ → Left → (List ℕ → Left → Verdict) → Verdict
+unfoldable pub wordLines : {B : Type 0} → ℕ → Left → (List ℕ → Left → Verdict B) → Verdict B
 wordLines zero left k = k [] left
 wordLines (suc n) left k = line "w=" word left (λ w left. wordLines n left (λ ws. k (w ∷ ws)))
 
 -- nothing may be "left over"
-abbrev pub noneLeft : List Line → ℕ → Verdict → Verdict
+abbrev pub noneLeft : {B : Type 0} → List Line → ℕ → Verdict B → Verdict B
 noneLeft [] n v = v
 noneLeft (l ∷ ls) n v = refused formFault n
 
 -- the lines "in this order"
-unfoldable pub content : Left → Verdict
+unfoldable pub content : Left → Verdict Job
 content left =
     line "cores=" cores left (λ cores left.
     line "memory=" memory left (λ memory left.
@@ -164,5 +164,5 @@ content left =
     (good (record { cores = cores; memory = memory; entry = entry; steps = steps; schedule = schedule; words = words })))))))))
 
 -- "then the card's length, then its lines"
-unfoldable pub cardSays : List ℕ → Verdict
+unfoldable pub cardSays : List ℕ → Verdict Job
 cardSays card = if leb (length card) maxCard then content (record { next = 1; rest = lines card }) else refused formFault 0

@@ -1,3 +1,4 @@
 pub mod Card
 pub mod Answer
 pub mod Places
+pub mod Reader

@@ -1,12 +1,13 @@
 // What a run card says, line by line.
 ghost use mathlib.Core.Path.{_≡_};
-ghost use Prim.Native.Nat.{_+_, _≤_, _<_};
+ghost use Prim.Native.Nat.{_≤_, _<_};
 ghost use lib.ListN.{length, drop};
 ghost use Rattle.text.specs.Ascii.{ascii};
 ghost use Rattle.text.specs.Lines.{lines};
-ghost use Rattle.card.specs.Card.{limited as limitedOf, first, schedule as scheduleOf, digitsBelow, word, content};
-ghost use Rattle.card.specs.Answer.{job as jobOf, scheduleAt, readingIn, Placed, ReadCard};
-ghost use Rattle.card.specs.Places.{parsedBy, numberText, fieldIn, Next, stepIn, Ahead, scheduleIn, left, Reached, fromWordLines, fromCount, fromSchedule, fromSteps, fromEntry, fromMemory, ReadFrom};
+ghost use Rattle.card.specs.Card.{limited as limitedOf, first, schedule as scheduleOf, digitsBelow, word, cardSays, maxCard};
+ghost use Rattle.card.specs.Answer.{told, andThen, answered};
+ghost use Rattle.card.specs.Places.{parsedBy, numberText, fieldIn, Next, stepIn, Ahead, scheduleIn};
+ghost use Rattle.card.specs.Reader.{standing, startOf, header, putOf, scheduleLine, headerLine, wordLinesOf, lastLines};
 use text::Found;
 use text::Parsed;
 
@@ -23,6 +24,9 @@ const MAX_STEPS: u32 = 16384;
 const MAX_DIGITS: usize = 16;
 
 const MAX_WORD: u32 = 0xffffffff;
+
+// The number of the first w line.
+const WORD_LINES: u32 = 7;
 
 // Why a card is refused, document 01's 1, 9 and 10: the image's length, a line's form, a value's limits.
 pub enum Cause {
@@ -49,43 +53,64 @@ pub enum Reading {
     Bad(Cause, u32),
 }
 
-// A card's bytes, and the place and the line reached. A u16 holds the number of every line that is ever reached.
-pub struct Reader<'a> {
-    pub card: &'a [u8],
+// A line's place in a card and its number, and the job of the lines before it.
+pub struct Progress {
     pub at: usize,
-    pub line: u16,
+    pub line: u32,
+    pub job: Job,
 }
 
+// How far a card is read: up to a line, or up to a fault and its line.
+pub enum Reached {
+    Line(Progress),
+    Fault(Cause, u32),
+}
+
+// A card's bytes and the line reached in it.
+pub struct Reader<'a> {
+    pub card: &'a [u8],
+    pub reached: Reached,
+}
+
+// At a card's first line.
 pub fn new<'a>(card: &'a [u8]) -> Reader<'a>
-    ensures { λ r. ⌜ (r .card ≡ card .entry) × (r .at ≡ 0) × (r .line ≡ 1) ⌝ }
+    ensures { λ r. ⌜ (r .card ≡ card .entry) × (standing (r .reached) ≡ startOf (now (card .entry))) ⌝ }
 {
+    let reached = start(card);
+    Reader { card, reached }
+}
+
+// One header line further; a fault stays.
+pub fn next<'a>(r: Reader<'a>) -> Reader<'a>
+    ensures { λ s. ⌜ (s .card ≡ r .entry .card) × (standing (s .reached) ≡ andThen (standing (r .entry .reached)) (headerLine (now (r .entry .card)))) ⌝ }
+{
+    let reached = line_at(r.card, r.reached);
     Reader {
-        card,
-        at: 0,
-        line: 1,
+        card: r.card,
+        reached,
     }
 }
 
-// The card from the reader's place and line on.
-pub fn read<'a>(r: Reader<'a>) -> Reading
-    ensures { λ s. ⌜ ReadFrom (now (r .entry .card)) (r .entry .at) (r .entry .line) s ⌝ }
+// The lines after the header, and the answer.
+pub fn finish<'a>(r: Reader<'a>) -> Reading
+    ensures { λ s. ⌜ told s ≡ andThen (standing (r .entry .reached)) (lastLines (now (r .entry .card))) ⌝ }
 {
-    read_from(r.card, r.at, r.line)
+    finish_at(r.card, r.reached)
 }
 
-// A whole card.
+// A whole card: the six lines of its header, and the rest.
 pub fn read_card(card: &[u8]) -> Reading
-    ensures { λ r. ⌜ ReadCard (now (card .entry)) r ⌝ }
+    ensures { λ r. ⌜ told r ≡ answered (now (card .entry)) (cardSays (now (card .entry))) ⌝ }
 {
-    read(new(card))
+    finish(next(next(next(next(next(next(new(card))))))))
 }
 
-// The card from a place and a line on. Each header line has a function, which adds to the job and goes on with the next line.
-pub fn read_from(card: &[u8], at: usize, line: u16) -> Reading
-    ensures { λ r. ⌜ ReadFrom (now (card .entry)) at line r ⌝ }
+// The first line of a card that is not too long.
+fn start(card: &[u8]) -> Reached
+    ensures { λ r. ⌜ standing r ≡ startOf (now (card .entry)) ⌝ }
 {
     if MAX_CARD < card.len() {
-        return Reading::Bad(Cause::Form, 0);
+        return Reached::Fault(Cause::Form, 0);
     }
     let job = Job {
         cores: 0,
@@ -97,133 +122,133 @@ pub fn read_from(card: &[u8], at: usize, line: u16) -> Reading
         words: 0,
         image: 0,
     };
-    cores_line(card, at, line as u32, job)
+    Reached::Line(Progress {
+        at: 0,
+        line: 1,
+        job,
+    })
 }
 
-fn cores_line(card: &[u8], at: usize, line: u32, mut job: Job) -> Reading
-    requires { ⌜ Reached (now card) at line ⌝ }
-    ensures { λ r. ⌜ (readingIn (now (card .entry)) r ≡ content (left (now (card .entry)) at line)) × (Placed (now (card .entry)) r) ⌝ }
+// The header's line at the place reached, by its number.
+fn line_at(card: &[u8], reached: Reached) -> Reached
+    ensures { λ r. ⌜ standing r ≡ andThen (standing reached) (headerLine (now (card .entry))) ⌝ }
 {
-    let form = Format {
-        hex: false,
-        low: 1,
-        high: MAX_CORES,
-        multiple: 1,
+    let Reached::Line(p) = reached else {
+        return reached;
     };
-    match number_at(card, at, b"cores=", form) {
-        Field::Value(n, next) => {
-            job.cores = n;
-            memory_line(card, next, line + 1, job)
+    let line = p.line;
+    match line {
+        1 => number_line(card, p, Item::Cores, b"cores=", CORES),
+        2 => number_line(card, p, Item::Memory, b"memory=", MEMORY),
+        3 => number_line(card, p, Item::Entry, b"entry=", ENTRY),
+        4 => number_line(card, p, Item::Steps, b"steps=", STEPS),
+        5 => schedule_line(card, p),
+        6 => {
+            let words = Format {
+                hex: false,
+                low: 0,
+                high: p.job.memory / 4,
+                multiple: 1,
+            };
+            number_line(card, p, Item::Words, b"words=", words)
         }
-        Field::Fault(cause) => Reading::Bad(cause, line),
+        _ => reached,
     }
 }
 
-fn memory_line(card: &[u8], at: usize, line: u32, mut job: Job) -> Reading
-    requires { ⌜ Reached (now card) at line ⌝ }
-    ensures { λ r. ⌜ (readingIn (now (card .entry)) r ≡ fromMemory (jobOf (job .cores)) (job .cores) (left (now (card .entry)) at line)) × (Placed (now (card .entry)) r) ⌝ }
+// Which of a job's numbers a line gives.
+pub enum Item {
+    Cores,
+    Memory,
+    Entry,
+    Steps,
+    Words,
+}
+
+fn put(mut job: Job, item: Item, n: u32) -> Job
+    ensures { λ r. ⌜ r ≡ putOf item n job ⌝ }
 {
-    let form = Format {
-        hex: false,
-        low: MIN_MEMORY,
-        high: MAX_MEMORY,
-        multiple: 4,
-    };
-    match number_at(card, at, b"memory=", form) {
+    match item {
+        Item::Cores => job.cores = n,
+        Item::Memory => job.memory = n,
+        Item::Entry => job.entry = n,
+        Item::Steps => job.steps = n,
+        Item::Words => job.words = n,
+    }
+    job
+}
+
+// A line with a number of the job.
+fn number_line(card: &[u8], p: Progress, item: Item, key: &[u8], form: Format) -> Reached
+    requires { ⌜ (p .line ≤ 6) × (0 < form .multiple) ⌝ }
+    ensures { λ r. ⌜ standing r ≡ header (now (key .entry)) (numberText form) (putOf item) (now (card .entry)) p ⌝ }
+{
+    match number_at(card, p.at, key, form) {
         Field::Value(n, next) => {
-            job.memory = n;
-            entry_line(card, next, line + 1, job)
+            let job = put(p.job, item, n);
+            let line = p.line + 1;
+            Reached::Line(Progress {
+                at: next,
+                line,
+                job,
+            })
         }
-        Field::Fault(cause) => Reading::Bad(cause, line),
+        Field::Fault(cause) => Reached::Fault(cause, p.line),
     }
 }
 
-fn entry_line(card: &[u8], at: usize, line: u32, mut job: Job) -> Reading
-    requires { ⌜ Reached (now card) at line ⌝ }
-    ensures { λ r. ⌜ (readingIn (now (card .entry)) r ≡ fromEntry (jobOf (job .cores) (job .memory)) (job .cores) (job .memory) (left (now (card .entry)) at line)) × (Placed (now (card .entry)) r) ⌝ }
+fn schedule_line(card: &[u8], p: Progress) -> Reached
+    requires { ⌜ p .line ≤ 6 ⌝ }
+    ensures { λ r. ⌜ standing r ≡ scheduleLine (now (card .entry)) p ⌝ }
 {
-    let form = Format {
-        hex: true,
-        low: 0,
-        high: MAX_WORD,
-        multiple: 4,
-    };
-    match number_at(card, at, b"entry=", form) {
-        Field::Value(n, next) => {
-            job.entry = n;
-            steps_line(card, next, line + 1, job)
-        }
-        Field::Fault(cause) => Reading::Bad(cause, line),
-    }
-}
-
-fn steps_line(card: &[u8], at: usize, line: u32, mut job: Job) -> Reading
-    requires { ⌜ Reached (now card) at line ⌝ }
-    ensures { λ r. ⌜ (readingIn (now (card .entry)) r ≡ fromSteps (jobOf (job .cores) (job .memory) (job .entry)) (job .cores) (job .memory) (left (now (card .entry)) at line)) × (Placed (now (card .entry)) r) ⌝ }
-{
-    let form = Format {
-        hex: false,
-        low: 0,
-        high: MAX_STEPS,
-        multiple: 1,
-    };
-    match number_at(card, at, b"steps=", form) {
-        Field::Value(n, next) => {
-            job.steps = n;
-            schedule_line(card, next, line + 1, job)
-        }
-        Field::Fault(cause) => Reading::Bad(cause, line),
-    }
-}
-
-fn schedule_line(card: &[u8], at: usize, line: u32, mut job: Job) -> Reading
-    requires { ⌜ Reached (now card) at line ⌝ }
-    ensures { λ r. ⌜ (readingIn (now (card .entry)) r ≡ fromSchedule (jobOf (job .cores) (job .memory) (job .entry) (job .steps)) (job .cores) (job .memory) (left (now (card .entry)) at line)) × (Placed (now (card .entry)) r) ⌝ }
-{
-    match text::find_entry(card, at, b"schedule=") {
+    match text::find_entry(card, p.at, b"schedule=") {
         Found::At(from, end) => {
             let text = &card[from..end];
+            let mut job = p.job;
             match check_schedule(text, job.cores) {
                 Check::Passed => {
                     job.schedule = from;
                     job.digits = end - from;
-                    count_line(card, end + 1, line + 1, job)
+                    let at = end + 1;
+                    let line = p.line + 1;
+                    Reached::Line(Progress { at, line, job })
                 }
-                Check::Failed(cause) => Reading::Bad(cause, line),
+                Check::Failed(cause) => Reached::Fault(cause, p.line),
             }
         }
-        Found::Missing => Reading::Bad(Cause::Form, line),
+        Found::Missing => Reached::Fault(Cause::Form, p.line),
     }
 }
 
-fn count_line(card: &[u8], at: usize, line: u32, mut job: Job) -> Reading
-    requires { ⌜ (Reached (now card) at line) × (job .schedule + job .digits ≤ length (now card)) ⌝ }
-    ensures { λ r. ⌜ (readingIn (now (card .entry)) r ≡ fromCount (jobOf (job .cores) (job .memory) (job .entry) (job .steps) (scheduleAt (now (card .entry)) job)) (job .memory) (left (now (card .entry)) at line)) × (Placed (now (card .entry)) r) ⌝ }
+// The lines after the header, if its last line is read.
+fn finish_at(card: &[u8], reached: Reached) -> Reading
+    ensures { λ r. ⌜ told r ≡ andThen (standing reached) (lastLines (now (card .entry))) ⌝ }
 {
-    let form = Format {
-        hex: false,
-        low: 0,
-        high: job.memory / 4,
-        multiple: 1,
-    };
-    match number_at(card, at, b"words=", form) {
-        Field::Value(n, next) => {
-            job.words = n;
-            job.image = next;
-            word_lines(card, line + 1, job)
+    match reached {
+        Reached::Line(p) => {
+            // A reader may hold any card. In one that is not too long every line's number fits.
+            if MAX_CARD < card.len() {
+                return Reading::Bad(Cause::Form, 0);
+            }
+            if p.line != WORD_LINES {
+                return Reading::Bad(Cause::Form, p.line);
+            }
+            let mut job = p.job;
+            job.image = p.at;
+            word_lines(card, job)
         }
-        Field::Fault(cause) => Reading::Bad(cause, line),
+        Reached::Fault(cause, line) => Reading::Bad(cause, line),
     }
 }
 
 // The w lines of a job, and no line more.
-fn word_lines(card: &[u8], line: u32, job: Job) -> Reading
-    requires { ⌜ (Reached (now card) (job .image) line) × (job .schedule + job .digits ≤ length (now card)) ⌝ }
-    ensures { λ r. ⌜ (readingIn (now (card .entry)) r ≡ fromWordLines (jobOf (job .cores) (job .memory) (job .entry) (job .steps) (scheduleAt (now (card .entry)) job)) (job .words) (left (now (card .entry)) (job .image) line)) × (Placed (now (card .entry)) r) ⌝ }
+fn word_lines(card: &[u8], job: Job) -> Reading
+    requires { ⌜ length (now card) ≤ maxCard ⌝ }
+    ensures { λ r. ⌜ told r ≡ wordLinesOf (now (card .entry)) job ⌝ }
 {
     let mut at = job.image;
     let mut more = job.words;
-    let mut number = line;
+    let mut number = WORD_LINES;
     while 0 < more {
         match word_at(card, at) {
             Field::Value(_, next) => {
@@ -251,17 +276,7 @@ pub enum Field {
 pub fn word_at(card: &[u8], at: usize) -> Field
     ensures { λ r. ⌜ (stepIn (now (card .entry)) r ≡ first (ascii "w=") word (lines (drop at (now (card .entry))))) × (Ahead (now (card .entry)) at r) ⌝ }
 {
-    number_at(
-        card,
-        at,
-        b"w=",
-        Format {
-            hex: true,
-            low: 0,
-            high: MAX_WORD,
-            multiple: 1,
-        },
-    )
+    number_at(card, at, b"w=", WORD)
 }
 
 // The form and the limits of a line's number.
@@ -271,6 +286,41 @@ pub struct Format {
     pub high: u32,
     pub multiple: u32,
 }
+
+const CORES: Format = Format {
+    hex: false,
+    low: 1,
+    high: MAX_CORES,
+    multiple: 1,
+};
+
+const MEMORY: Format = Format {
+    hex: false,
+    low: MIN_MEMORY,
+    high: MAX_MEMORY,
+    multiple: 4,
+};
+
+const ENTRY: Format = Format {
+    hex: true,
+    low: 0,
+    high: MAX_WORD,
+    multiple: 4,
+};
+
+const STEPS: Format = Format {
+    hex: false,
+    low: 0,
+    high: MAX_STEPS,
+    multiple: 1,
+};
+
+const WORD: Format = Format {
+    hex: true,
+    low: 0,
+    high: MAX_WORD,
+    multiple: 1,
+};
 
 // The number on the line at a place.
 fn number_at(card: &[u8], at: usize, key: &[u8], form: Format) -> Field

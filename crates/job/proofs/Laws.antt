@@ -15,8 +15,7 @@ use Rattle.bits.proofs.Tests.{and-left, and-right}
 use Rattle.text.specs.Ascii.{ascii}
 use Rattle.text.specs.Digits.{digit}
 use Rattle.text.specs.Lines.{Line}
-use Rattle.card.specs.Card.{Verdict, good, refused, imageFault, cardSays, step, stop, first, word, every}
-use Rattle.card.specs.Card as paper
+use Rattle.card.specs.Card.{Job, Verdict, good, refused, imageFault, cardSays, step, stop, first, word, every}
 use Rattle.card.specs.Answer.{wordsFrom}
 use Rattle.job.specs.Laid.{laid}
 use Rattle.effect.specs.State.{stateWords, pcAt, srAt, esrAt, modeAt, running}
@@ -212,10 +211,10 @@ module _ (card image : List ℕ) where
   unfolding reading
   right-image e = simp (eq-eqb _ _ e)
 
-pub image-kept : {v : Verdict} {f n : ℕ} (image : List ℕ) → v ≡ refused f n → imageAfter v image ≡ image
+pub image-kept : {v : Verdict Job} {f n : ℕ} (image : List ℕ) → v ≡ refused f n → imageAfter v image ≡ image
 unfolding imageAfter
 image-kept image e = simp e
 
-pub image-laid : {v : Verdict} {j : paper.Job} (image : List ℕ) → v ≡ good j → imageAfter v image ≡ laid (laid image 0 (replicate (j .memory) 0)) 0 (bytes (j .words))
+pub image-laid : {v : Verdict Job} {j : Job} (image : List ℕ) → v ≡ good j → imageAfter v image ≡ laid (laid image 0 (replicate (j .memory) 0)) 0 (bytes (j .words))
 unfolding imageAfter
 image-laid image e = simp e

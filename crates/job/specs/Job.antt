@@ -5,7 +5,7 @@ use lib.ListN.{length, getD, set, replicate}
 use lib.Dec.{eqb}
 use Rattle.bits.specs.Choice.{if_then_else_}
 use Rattle.effect.specs.State.{stateWords, pcAt, srAt, esrAt, modeAt, running}
-use Rattle.card.specs.Card.{Verdict, good, refused, imageFault, cardSays}
+use Rattle.card.specs.Card.{Job, Verdict, good, refused, imageFault, cardSays}
 use Rattle.job.specs.Laid.{laid}
 
 -- "a lent image of 16,384"
@@ -13,7 +13,7 @@ abbrev pub imageLength : ℕ
 imageLength = 16384
 
 -- "The card reader tests 1, then the card's length, then its lines"
-unfoldable pub reading : List ℕ → List ℕ → Verdict
+unfoldable pub reading : List ℕ → List ℕ → Verdict Job
 reading card image = if eqb (length image) imageLength then cardSays card else refused imageFault 0
 
 -- a word, "high byte first"
@@ -25,7 +25,7 @@ bytes [] = []
 bytes (w ∷ ws) = wordBytes w ++ bytes ws
 
 -- "It zeroes and fills (w words from address 0) the first memory bytes of a lent image of 16,384, leaving the rest, only after the whole card is good."
-unfoldable pub imageAfter : Verdict → List ℕ → List ℕ
+unfoldable pub imageAfter : Verdict Job → List ℕ → List ℕ
 imageAfter (good j) image = laid (laid image 0 (replicate (j .memory) 0)) 0 (bytes (j .words))
 imageAfter (refused f n) image = image
 

@@ -24,11 +24,12 @@ use Rattle.report.specs.declared.Written.{Written}
 use Rattle.report.specs.declared.Written.the-variants.{Bytes, TooSmall}
 use Rattle.report.proofs.Room.{too-small}
 use Rattle.card.specs.Card.{Job, good, cardSays}
-use Rattle.card.specs.Answer.{refusal, readingIn, jobAt, Bounds}
+use Rattle.card.specs.Answer.{refusal, told, answered, jobAt, Bounds}
 use Rattle.card.specs.declared.Cause.{Cause}
 use Rattle.card.specs.declared.Job as code
 use Rattle.card.specs.declared.Reading.{Reading}
 use Rattle.card.specs.declared.Reading.the-variants.{Good, Bad}
+use Rattle.card.proofs.Bounds.{good-says as card-says, bad-says}
 use Rattle.job.specs.Job.{imageLength, bytes, imageAfter}
 use Rattle.job.specs.Answer.{ReadJob}
 use Rattle.job.proofs.Laws.{right-image, image-laid, length-bytes}
@@ -77,16 +78,16 @@ module _ {mem s schedule cache mem′ s′ cache′ : List ℕ} {r : Answer} (f 
 -- ---- a card that was read
 
 module _ {card image image′ : List ℕ} {r : Reading} (l : length image ≡ imageLength) (h : ReadJob card image image′ r) where
-  says : readingIn card r ≡ cardSays card
-  says = h .says ∙ right-image card image l
+  says : told r ≡ answered card (cardSays card)
+  says = h .says ∙ ap (answered card) (right-image card image l)
 
   pub bad-output : (cause : Cause) (line : ℕ) → r ≡ Bad cause line → refusalText (refusal cause) line ≡ output card
   unfolding output verdictText
-  bad-output cause line e = ap verdictText (ap (readingIn card) (sym e) ∙ says)
+  bad-output cause line e = ap verdictText (sym (bad-says card (ap told (sym e) ∙ says)))
 
   module _ (j : code.Job) (e : r ≡ Good j) where
     good-says : cardSays card ≡ good (jobAt card j)
-    good-says = sym says ∙ ap (readingIn card) e
+    good-says = card-says card j (ap told (sym e) ∙ says)
 
     pub good-output : jobText (jobAt card j) ≡ output card
     unfolding output verdictText

@@ -41,7 +41,7 @@ unfoldable pub jobText : Job → List ℕ
 jobText j = runText (memoryOf j) (statesOf j) (scheduleOf j) (emptyCache j)
 
 -- "a bad card prints `refused=9 line=3`"
-unfoldable pub verdictText : Verdict → List ℕ
+unfoldable pub verdictText : Verdict Job → List ℕ
 verdictText (good j) = jobText j
 verdictText (refused number line) = refusalText number line
 

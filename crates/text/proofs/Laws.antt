@@ -6,16 +6,16 @@ use mathlib.Core.List.{List, [], _∷_}
 use native.Mathlib.Numerals.{add-one}
 use native.Mathlib.Omega.{arith}
 use native.Mathlib.Nat.{mul-le-mul-left, not-suc-le-zero, pow-suc, pow-le-pow-right}
-use borrow.Author.Tests.{eq-eqb, ne-eqb, lt-ltb, le-ltb, le-leb, lt-leb}
-use lib.Dec.{T, eqb, eqb→eq, lit<}
+use borrow.Author.Tests.{eq-eqb, ne-eqb, lt-ltb, le-ltb, le-leb, lt-leb, ltb-true, ltb-false}
+use lib.Dec.{T, eqb, ltb, eqb→eq, lit<}
 use lib.ListN.{length, take, drop, getD, drop-of-length-le, length-drop}
 use lib.Seq.{drop-cons, drop-drop, take-add, drop-at, length-take-le}
 use lib.Arith.{digits-lt}
 use Rattle.bits.proofs.Tests.{everywhere, within as at-each}
 use Rattle.text.specs.Digits.{digit}
 use Rattle.text.specs.Numbers.{number, decimal}
-use Rattle.text.specs.Lines.{Line, ended, cut, onto, lines, begins, entry, missing, entryOf}
-use Rattle.text.specs.Places.{lineLength}
+use Rattle.text.specs.Lines.{Line, ended, cut, onto, lines, begins, Entry, entry, missing, entryOf}
+use Rattle.text.specs.Places.{lineLength, lineEnd}
 use Rattle.text.specs.declared.Parsed.the-variants.{Number, Nothing}
 
 -- the digits by ranges of bytes: at each of n bytes from low on, f is the digit
@@ -148,7 +148,7 @@ unfolding entryOf
 none-missing key none = refl
 none-missing key (only l) = refl
 
-module _ (key s : List ℕ) (at e : ℕ) (h : e ≡ at + lineLength (drop at s)) where
+module _ (key s : List ℕ) (at e : ℕ) (h : e ≡ lineEnd s at) where
   pub no-line : length s ≤ e → entryOf key (lines (drop at s)) ≡ missing
   no-line k = none-missing key (lines-cut (drop at s) (simp length-drop (omega arith)))
 
@@ -184,3 +184,24 @@ module _ (key s : List ℕ) (at e : ℕ) (h : e ≡ at + lineLength (drop at s))
         (drop-at (take (length key) (drop at s)) _ (length key) (length-take-le (length key) (drop at s) l)
         ∙ ap (take (e - (at + length key))) (drop-drop (length key) at s)) in
         rw at-line (simp (b, d))
+
+-- the text after a key on the line at a place
+abbrev pub textAt : List ℕ → List ℕ → ℕ → List ℕ
+textAt key s at = take (lineEnd s at - (at + length key)) (drop (at + length key) s)
+
+-- no entry, or the one whose text stands there
+pub data Stands (key s : List ℕ) (at : ℕ) : Entry → Type 0 where
+  nowhere : Stands key s at missing
+  there : at + length key ≤ lineEnd s at → lineEnd s at < length s → Stands key s at (entry (textAt key s at) (lines (drop (lineEnd s at + 1) s)))
+
+module _ (key s : List ℕ) (at : ℕ) where
+  begun : (h : lineEnd s at < length s) (b : Bool) → begins key (line key s at (lineEnd s at) refl h) ≡ b → Stands key s at (entryOf key (lines (drop at s)))
+  begun h true e = rw (line-entry key s at (lineEnd s at) refl h e) (there (key-fits key s at (lineEnd s at) refl h e) h)
+  begun h false e = rw (other-line key s at (lineEnd s at) refl h e) nowhere
+
+  feed : (b : Bool) → ltb (lineEnd s at) (length s) ≡ b → Stands key s at (entryOf key (lines (drop at s)))
+  feed true e = begun (ltb-true _ _ e) _ refl
+  feed false e = rw (no-line key s at (lineEnd s at) refl (ltb-false _ _ e)) nowhere
+
+  pub entry-stands : Stands key s at (entryOf key (lines (drop at s)))
+  entry-stands = feed _ refl

@@ -5,7 +5,7 @@ ghost use lib.ListN.{length, drop};
 ghost use Rattle.text.specs.Digits.{glyph as glyphOf, digit as digitOf};
 ghost use Rattle.text.specs.Numbers.{number as numberOf, decimal as decimalOf, hexadecimal as hexadecimalOf};
 ghost use Rattle.text.specs.Lines.{begins as beginsOf, lines, entryOf};
-ghost use Rattle.text.specs.Places.{lineLength, foundIn, Inside};
+ghost use Rattle.text.specs.Places.{lineEnd, foundIn, Inside};
 
 // What a text says: a number, or nothing.
 pub enum Parsed {
@@ -110,7 +110,7 @@ fn begins(line: &[u8], key: &[u8]) -> bool
 
 // The place of the first line feed from a place on, or where the text ends.
 fn line_end(text: &[u8], at: usize) -> usize
-    ensures { λ r. ⌜ r ≡ at + lineLength (drop at (now (text .entry))) ⌝ }
+    ensures { λ r. ⌜ r ≡ lineEnd (now (text .entry)) at ⌝ }
 {
     let mut i = at;
     while i < text.len() {
@@ -124,7 +124,7 @@ fn line_end(text: &[u8], at: usize) -> usize
 
 // Where what follows a key stands on the line at a place.
 pub fn find_entry(text: &[u8], at: usize, key: &[u8]) -> Found
-    ensures { λ r. ⌜ (foundIn (now (text .entry)) r ≡ entryOf (now (key .entry)) (lines (drop at (now (text .entry))))) × (Inside (now (text .entry)) at r) ⌝ }
+    ensures { λ r. ⌜ (foundIn (now (text .entry)) r ≡ entryOf (now (key .entry)) (lines (drop at (now (text .entry))))) × (Inside (now (key .entry)) (now (text .entry)) at r) ⌝ }
 {
     let end = line_end(text, at);
     if text.len() <= end {

@@ -1,12 +1,11 @@
 use Prim.Native.Nat.{_+_, _-_}
 use mathlib.Core.Path.{ap, sym, _∙_}
 use lib.ListN.{take, drop}
-use native.Mathlib.Omega.{arith}
 use Rattle.text.specs.Ascii.{ascii}
 use Rattle.text.specs.Lines.{lines}
 use Rattle.card.specs.Card.{followed, schedule}
-use Rattle.card.specs.Places.{scheduleIn, left, fromSchedule}
-use Rattle.card.proofs.Laws.{first-found, line-step, line-stop}
+use Rattle.card.specs.Places.{scheduleIn}
+use Rattle.card.proofs.Laws.{first-found, schedule-good, schedule-bad}
 use borrow.Author.Needs.{needs}
 use Rattle.card.proofs.schedule_line.Statement.{statement}
 use Rattle.card.proofs.schedule_line.Tie as tie
@@ -36,16 +35,13 @@ enum-told : tie.Need-enum-told
 enum-told c = search needs
 
 sub-job : tie.Need-sub-job
-sub-job c = let i = rw (c .before .before .before .before .before .from .given .1) at (c .before .before .before .before .before .before .before .find-entry .ensures .1) in search needs
+sub-job c = let i = rw (c .before .before .before .before .before .before .from .given .1) at (c .before .before .before .before .before .before .before .before .find-entry .ensures .1) in search needs
 
-add-count-line : tie.Need-add-count-line
-add-count-line c = let i = rw (c .before .before .before .before .before .from .given .1) at (c .before .before .before .before .before .before .before .find-entry .ensures .1) in search needs
+add-at : tie.Need-add-at
+add-at c = let i = rw (c .before .before .before .before .before .before .from .given .1) at (c .before .before .before .before .before .before .before .before .find-entry .ensures .1) in search needs
 
-add-count-line-2 : tie.Need-add-count-line-2
-add-count-line-2 c = let i = rw (c .before .before .before .before .before .from .given .1) at (c .before .before .before .before .before .before .before .find-entry .ensures .1) in search needs
-
-count-line-requires : tie.Need-count-line-requires
-count-line-requires c κs = let i = rw (c .before .before .before .before .before .from .given .1) at (c .before .before .before .before .before .before .before .find-entry .ensures .1) in ((omega arith, omega arith), omega arith)
+add-line : tie.Need-add-line
+add-line c = search needs
 
 enum-known-cause : tie.Need-enum-known-cause
 enum-known-cause c = search needs
@@ -54,33 +50,30 @@ enum-told-2 : tie.Need-enum-told-2
 enum-told-2 c = search needs
 
 returns : tie.Need-returns
-unfolding fromSchedule
 returns c =
-    let a = c .before .before .before .before .before .before .before .before .before .before .before .args in
-    let from = c .before .before .before .before .before .before .from .given .0 .0 in
-    let end = c .before .before .before .before .before .before .from .given .0 .1 .0 in
-    let t = take (end - from) (drop from (a .card .now)) in
-    let s = schedule (a .job .cores) in
-    let e = first-found (ascii "schedule=") s (a .card .now) _ (c .before .before .before .before .before .before .before .before .find-entry .ensures .0) (c .before .before .before .before .before .before .from .given .1) ∙ ap (followed (lines (drop (end + 1) (a .card .now)))) (sym (c .before .before .before .check-schedule .ensures) ∙ ap (scheduleIn t) (c .before .enum-told .given .1)) in
-    (c .count-line .ensures .0 ∙ sym (line-step "schedule=" s (left (a .card .now) (a .at) (a .line)) _ e), c .count-line .ensures .1)
+    let a = c .before .before .before .before .before .before .before .before .before .before .before .before .args in
+    let card = a .card .now in
+    let g = c .before .before .before .before .before .before .before .from .given in
+    let t = take (g .0 .1 .0 - g .0 .0) (drop (g .0 .0) card) in
+    let s = schedule (a .p .job .cores) in
+    let e = first-found (ascii "schedule=") s card _ (c .before .before .before .before .before .before .before .before .before .find-entry .ensures .0) (g .1) ∙ ap (followed (lines (drop (g .0 .1 .0 + 1) card))) (sym (c .before .before .before .check-schedule .ensures) ∙ ap (scheduleIn t) (c .before .enum-told .given .1)) in
+    let i = rw (g .1) at (c .before .before .before .before .before .before .before .before .before .find-entry .ensures .1) in
+    schedule-good card (a .p) (i .0) (i .1) (i .2) (i .3) e
 
 returns-2 : tie.Need-returns-2
-unfolding fromSchedule
 returns-2 c =
-    let a = c .before .before .before .before .before .before .before .before .before .before .before .args in
-    let from = c .before .before .before .before .before .before .from .given .0 .0 in
-    let end = c .before .before .before .before .before .before .from .given .0 .1 .0 in
-    let t = take (end - from) (drop from (a .card .now)) in
-    let s = schedule (a .job .cores) in
-    let e = first-found (ascii "schedule=") s (a .card .now) _ (c .before .before .before .before .before .before .before .before .find-entry .ensures .0) (c .before .before .before .before .before .before .from .given .1) ∙ ap (followed (lines (drop (end + 1) (a .card .now)))) (sym (c .before .before .before .check-schedule .ensures) ∙ ap (scheduleIn t) (c .before .cause .given .1)) in
-    (sym (line-stop "schedule=" s (left (a .card .now) (a .at) (a .line)) _ e), tt)
+    let a = c .before .before .before .before .before .before .before .before .before .before .before .before .args in
+    let card = a .card .now in
+    let g = c .before .before .before .before .before .before .before .from .given in
+    let t = take (g .0 .1 .0 - g .0 .0) (drop (g .0 .0) card) in
+    let s = schedule (a .p .job .cores) in
+    let e = first-found (ascii "schedule=") s card _ (c .before .before .before .before .before .before .before .before .before .find-entry .ensures .0) (g .1) ∙ ap (followed (lines (drop (g .0 .1 .0 + 1) card))) (sym (c .before .before .before .check-schedule .ensures) ∙ ap (scheduleIn t) (c .before .cause .given .1)) in
+    schedule-bad card (a .p) e
 
 returns-3 : tie.Need-returns-3
-unfolding fromSchedule
 returns-3 c =
     let a = c .before .before .before .before .before .args in
-    let s = schedule (a .job .cores) in
-    (sym (line-stop "schedule=" s (left (a .card .now) (a .at) (a .line)) _ (first-found (ascii "schedule=") s (a .card .now) _ (c .before .before .find-entry .ensures .0) (c .enum-told2 .given .1))), tt)
+    schedule-bad (a .card .now) (a .p) (first-found (ascii "schedule=") (schedule (a .p .job .cores)) (a .card .now) _ (c .before .before .find-entry .ensures .0) (c .enum-told2 .given .1))
 
 pub schedule-line-spec : {M : Type 1} → statement M
 schedule-line-spec =
@@ -95,9 +88,8 @@ schedule-line-spec =
     check-schedule-requires
     enum-told
     sub-job
-    add-count-line
-    add-count-line-2
-    count-line-requires
+    add-at
+    add-line
     enum-known-cause
     enum-told-2
     returns

@@ -1,18 +1,19 @@
 use Prim.Native.Nat.{_+_, _≤_}
 use mathlib.Core.Path.{_≡_, refl, ap, sym, _∙_}
 use native.Mathlib.Omega.{arith}
-use Rattle.card.specs.Answer.{job, scheduleAt}
+use Rattle.card.specs.Card.{wordLines, good}
 use Rattle.card.specs.Places.{stepIn, left}
-use Rattle.card.proofs.Laws.{tailOf, whole, broken, word-tail, tail-step, tail-stop, tail-done, left-over, none-left}
+use Rattle.card.specs.Reader.{close, wordLinesOf}
+use Rattle.card.proofs.Laws.{words-next, words-stop, words-done, left-over, none-left}
 use borrow.Author.Needs.{needs}
 use Rattle.card.proofs.word_lines.Statement.{statement}
 use Rattle.card.proofs.word_lines.Tie as tie
 
 abbrev Inv-loop : tie.InvT-loop
-Inv-loop card line job at₀ more₀ number₀ at more number = (tailOf more (left card at number) ≡ tailOf (job .words) (left card (job .image) line)) × (number ≤ at + 65536)
+Inv-loop card job at₀ more₀ number₀ at more number = (wordLines more (left card at number) (λ ws. close job) ≡ wordLines (job .words) (left card (job .image) 7) (λ ws. close job)) × (number ≤ at + 7)
 
 abbrev μ-loop : tie.MeasureT-loop
-μ-loop card line job at₀ more₀ number₀ at more number = more
+μ-loop card job at₀ more₀ number₀ at more number = more
 
 loop-holds : tie.Need-loop-holds Inv-loop μ-loop
 loop-holds c = (refl, omega arith)
@@ -37,7 +38,7 @@ loop-again c =
     let a = c .before .before .before .before .before .before .before .args in
     let l = c .before .before .before .before .before .loop in
     let h = rw (c .before .next .given .1) at (c .before .before .before .word-at .ensures .1) in (
-      sym (tail-step (l .more) (left (a .card .now) (l .at) (l .number)) (c .before .before .before .before .loop-test .taken) (sym (c .before .before .before .word-at .ensures .0) ∙ ap (stepIn (a .card .now)) (c .before .next .given .1)))
+      sym (words-next (close (a .job)) (l .more) (left (a .card .now) (l .at) (l .number)) (c .before .before .before .before .loop-test .taken) (sym (c .before .before .before .word-at .ensures .0) ∙ ap (stepIn (a .card .now)) (c .before .next .given .1)))
           ∙ l .inv .0,
       omega arith,
     )
@@ -46,34 +47,28 @@ enum-known-cause : tie.Need-enum-known-cause Inv-loop μ-loop
 enum-known-cause c = search needs
 
 returns : tie.Need-returns Inv-loop μ-loop
+unfolding wordLinesOf
 returns c =
     let a = c .before .before .before .before .before .before .before .args in
-    let p = a .job in
     let l = c .before .before .before .before .before .loop in
-    let g = job (p .cores) (p .memory) (p .entry) (p .steps) (scheduleAt (a .card .now) p) in
-    let at = left (a .card .now) (l .at) (l .number) in
-    let e = tail-stop (l .more) at (c .before .before .before .before .loop-test .taken) (sym (c .before .before .before .word-at .ensures .0) ∙ ap (stepIn (a .card .now)) (c .before .cause .given .1)) in
-    (sym (word-tail g (p .words) (left (a .card .now) (p .image) (a .line)) (broken _ _) (sym (l .inv .0) ∙ e)), tt)
+    sym (words-stop (close (a .job)) (l .more) (left (a .card .now) (l .at) (l .number)) (c .before .before .before .before .loop-test .taken) (sym (c .before .before .before .word-at .ensures .0) ∙ ap (stepIn (a .card .now)) (c .before .cause .given .1)))
+    ∙ l .inv .0
 
 returns-2 : tie.Need-returns-2 Inv-loop μ-loop
+unfolding wordLinesOf
 returns-2 c =
     let a = c .before .before .before .before .args in
-    let p = a .job in
     let l = c .before .before .loop in
-    let g = job (p .cores) (p .memory) (p .entry) (p .steps) (scheduleAt (a .card .now) p) in
-    let at = left (a .card .now) (l .at) (l .number) in
-    let e = tail-done (l .more) at (c .before .loop-test .left) in
-    (sym (word-tail g (p .words) (left (a .card .now) (p .image) (a .line)) (whole at) (sym (l .inv .0) ∙ e) ∙ left-over (a .card .now) (l .at) (l .number) _ (omega arith)), tt)
+    sym (words-done (close (a .job)) (l .more) (left (a .card .now) (l .at) (l .number)) (c .before .loop-test .left) ∙ left-over (l .number) (good (a .job)) (a .card .now) (l .at) (c .if1 .taken))
+    ∙ l .inv .0
 
 returns-3 : tie.Need-returns-3 Inv-loop μ-loop
+unfolding wordLinesOf
 returns-3 c =
     let a = c .before .before .before .before .args in
-    let p = a .job in
     let l = c .before .before .loop in
-    let g = job (p .cores) (p .memory) (p .entry) (p .steps) (scheduleAt (a .card .now) p) in
-    let at = left (a .card .now) (l .at) (l .number) in
-    let e = tail-done (l .more) at (c .before .loop-test .left) in
-    (sym (word-tail g (p .words) (left (a .card .now) (p .image) (a .line)) (whole at) (sym (l .inv .0) ∙ e) ∙ none-left (a .card .now) (l .at) (l .number) _ (omega arith)), omega arith)
+    sym (words-done (close (a .job)) (l .more) (left (a .card .now) (l .at) (l .number)) (c .before .loop-test .left) ∙ none-left (l .number) (good (a .job)) (a .card .now) (l .at) (c .if1 .left))
+    ∙ l .inv .0
 
 pub word-lines-spec : {M : Type 1} → statement M
 word-lines-spec =

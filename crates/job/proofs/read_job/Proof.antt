@@ -1,7 +1,7 @@
 use mathlib.Core.Path.{ap, sym, _∙_}
 use native.Mathlib.Omega.{arith}
-use Rattle.card.specs.Answer.{readingIn}
-use Rattle.card.proofs.Bounds.{says-bounds}
+use Rattle.card.specs.Answer.{told, answered}
+use Rattle.card.proofs.Bounds.{good-says, good-bounds, bad-says}
 use Rattle.job.proofs.Laws.{wrong-image, right-image, image-kept, image-laid}
 use borrow.Author.Needs.{needs}
 use Rattle.job.proofs.read_job.Statement.{statement}
@@ -11,7 +11,7 @@ returns : tie.Need-returns
 returns c =
     let a = c .before .before .before .args in
     let e = wrong-image (a .card .now) (a .image .now) (c .if1 .taken) in
-    record { says = sym e; written = sym (image-kept (a .image .now) e); held = tt }
+    record { says = sym (ap (answered (a .card .now)) e); written = sym (image-kept (a .image .now) e); held = tt }
 
 read-card-requires : tie.Need-read-card-requires
 read-card-requires c κs = search needs
@@ -22,11 +22,8 @@ enum-known-job c = search needs
 lay-out-requires : tie.Need-lay-out-requires
 lay-out-requires c κs =
     let a = c .before .before .before .before .before .before .before .before .args in
-    let j = c .before .before .job .given .0 .0 in
-    let r = c .before .before .before .before .read-card .ensures in
-    let e = sym (r .says) ∙ ap (readingIn (a .card .now)) (c .before .before .job .given .1) in
-    let p = rw (c .before .before .job .given .1) at (r .placed) in
-    let b = says-bounds (a .card .now) j e p in
+    let g = c .before .before .job .given in
+    let b = good-bounds (a .card .now) (g .0 .0) (sym (ap told (g .1)) ∙ c .before .before .before .before .read-card .ensures) in
     (omega arith, omega arith, omega arith)
 
 enum-known-cause : tie.Need-enum-known-cause
@@ -38,20 +35,21 @@ same-length c = search needs
 returns-2 : tie.Need-returns-2
 returns-2 c =
     let a = c .before .before .before .before .before .before .before .before .before .before .before .args in
-    let j = c .before .before .before .before .before .job .given .0 .0 in
-    let r = c .before .before .before .before .before .before .before .read-card .ensures in
-    let e = sym (r .says) ∙ ap (readingIn (a .card .now)) (c .before .before .before .before .before .job .given .1) in
-    let p = rw (c .before .before .before .before .before .job .given .1) at (r .placed) in
-    let b = says-bounds (a .card .now) j e p in
-    let f = right-image (a .card .now) (a .image .now) (c .before .before .before .before .before .before .before .before .if1 .left) ∙ e in
-    record { says = sym f; written = c .before .before .lay-out .ensures ∙ sym (image-laid (a .image .now) f); held = b }
+    let g = c .before .before .before .before .before .job .given in
+    let h = sym (ap told (g .1)) ∙ c .before .before .before .before .before .before .before .read-card .ensures in
+    let i = right-image (a .card .now) (a .image .now) (c .before .before .before .before .before .before .before .before .if1 .left) in
+    record {
+      says = h ∙ sym (ap (answered (a .card .now)) i);
+      written = c .before .before .lay-out .ensures ∙ sym (image-laid (a .image .now) (i ∙ good-says (a .card .now) (g .0 .0) h));
+      held = good-bounds (a .card .now) (g .0 .0) h;
+    }
 
 returns-3 : tie.Need-returns-3
 returns-3 c =
     let a = c .before .before .before .before .before .before .before .args in
-    let r = c .before .before .before .read-card .ensures in
-    let e = right-image (a .card .now) (a .image .now) (c .before .before .before .before .if1 .left) ∙ sym (r .says) ∙ ap (readingIn (a .card .now)) (c .before .cause .given .1) in
-    record { says = sym e; written = sym (image-kept (a .image .now) e); held = tt }
+    let h = sym (ap told (c .before .cause .given .1)) ∙ c .before .before .before .read-card .ensures in
+    let i = right-image (a .card .now) (a .image .now) (c .before .before .before .before .if1 .left) in
+    record { says = h ∙ sym (ap (answered (a .card .now)) i); written = sym (image-kept (a .image .now) (i ∙ bad-says (a .card .now) h)); held = tt }
 
 pub read-job-spec : {M : Type 1} → statement M
 read-job-spec =

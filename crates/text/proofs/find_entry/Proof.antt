@@ -1,4 +1,4 @@
-use mathlib.Core.Path.{sym, _∙_}
+use mathlib.Core.Path.{refl, sym, _∙_}
 use native.Mathlib.Omega.{arith}
 use Rattle.text.proofs.Laws.{no-line, other-line, line-entry, key-fits}
 use borrow.Author.Needs.{needs}
@@ -38,7 +38,7 @@ returns-2 c =
     let l = c .before .before .before .before .line-end in
     let b = sym (c .before .begins .ensures) ∙ c .if2 .taken in
     let f = key-fits (a .key .now) (a .text .now) (a .at) (l .result) (l .ensures) (omega arith) b in
-    (sym (line-entry (a .key .now) (a .text .now) (a .at) (l .result) (l .ensures) (omega arith) b), (omega arith, omega arith, omega arith))
+    (sym (line-entry (a .key .now) (a .text .now) (a .at) (l .result) (l .ensures) (omega arith) b), (refl, l .ensures, omega arith, omega arith))
 
 returns-3 : tie.Need-returns-3
 returns-3 c =
