@@ -6,19 +6,20 @@ use lib.Signed.{leZ, ltZ}
 use Rattle.bits.specs.Choice.{if_then_else_}
 use Rattle.bits.specs.Word.{signed}
 
--- the compare of code k holds of a and b; by any other code nothing does.
--- Words and kinds: "Set-flag order, by bits 25–21: eq 0, ne 1, gtu 2, geu 3, ltu 4, leu 5, gts a, ges b, lts c, les d"
+-- The compare at place n of the set-flag order holds of a and b; at any other place nothing does.
+-- Words and kinds: "Set-flag order, by bits 25–21: eq 0, ne 1, gtu 2, geu 3, ltu 4, leu 5, gts a, ges b, lts c, les d". The rows of the instruction
+-- set have these bits, in this order.
 -- One instruction: "Signed compares read 80000000 as the least number"
 unfoldable pub holds : ℕ → ℕ → ℕ → Bool
-holds k a b =
-    if eqb k 0x0 then eqb a b else
-    if eqb k 0x1 then not (eqb a b) else
-    if eqb k 0x2 then ltb b a else
-    if eqb k 0x3 then leb b a else
-    if eqb k 0x4 then ltb a b else
-    if eqb k 0x5 then leb a b else
-    if eqb k 0xa then ltZ (signed 32 b) (signed 32 a) else
-    if eqb k 0xb then leZ (signed 32 b) (signed 32 a) else
-    if eqb k 0xc then ltZ (signed 32 a) (signed 32 b) else
-    if eqb k 0xd then leZ (signed 32 a) (signed 32 b) else
+holds n a b =
+    if eqb n 0 then eqb a b else  -- eq
+    if eqb n 1 then not (eqb a b) else  -- ne
+    if eqb n 2 then ltb b a else  -- gtu
+    if eqb n 3 then leb b a else  -- geu
+    if eqb n 4 then ltb a b else  -- ltu
+    if eqb n 5 then leb a b else  -- leu
+    if eqb n 6 then ltZ (signed 32 b) (signed 32 a) else  -- gts
+    if eqb n 7 then leZ (signed 32 b) (signed 32 a) else  -- ges
+    if eqb n 8 then ltZ (signed 32 a) (signed 32 b) else  -- lts
+    if eqb n 9 then leZ (signed 32 a) (signed 32 b) else  -- les
     false

@@ -1,6 +1,6 @@
 // Arithmetic on words, and the bits of SR.
 ghost use mathlib.Core.Path.{_≡_};
-ghost use Prim.Native.Nat.{_<_};
+ghost use Prim.Native.Nat.{_^_, _<_};
 ghost use lib.Bits.{bitAnd, bitOr, bitXor};
 ghost use Rattle.bits.specs.Choice.{if_then_else_};
 ghost use Rattle.bits.specs.Word.{bit, bitAt};
@@ -158,23 +158,28 @@ pub fn address_sub(a: u32, b: u32) -> u32
     std::num::wrapping_sub_u32(a, b)
 }
 
-// The compare of code k. Signed numbers are in the order of their words with 2^31 added.
-pub fn compare(k: u32, a: u32, b: u32) -> bool
-    ensures { λ r. ⌜ r ≡ holds k a b ⌝ }
+// a + 2^31: signed numbers are in the order of these words.
+fn biased(a: u32) -> u32
+    ensures { λ r. ⌜ r ≡ addressSum a (2 ^ 31) ⌝ }
 {
-    let x = std::num::wrapping_add_u32(a, 0x80000000);
-    let y = std::num::wrapping_add_u32(b, 0x80000000);
-    match k {
-        0 => a == b,
-        1 => a != b,
-        2 => b < a,
-        3 => b <= a,
-        4 => a < b,
-        5 => a <= b,
-        0xa => y < x,
-        0xb => y <= x,
-        0xc => x < y,
-        0xd => x <= y,
+    std::num::wrapping_add_u32(a, 0x80000000)
+}
+
+// The compare at place n of the set-flag order.
+pub fn compare(n: u8, a: u32, b: u32) -> bool
+    ensures { λ r. ⌜ r ≡ holds n a b ⌝ }
+{
+    match n {
+        0 => a == b, // eq
+        1 => a != b, // ne
+        2 => b < a, // gtu
+        3 => b <= a, // geu
+        4 => a < b, // ltu
+        5 => a <= b, // leu
+        6 => biased(b) < biased(a), // gts
+        7 => biased(b) <= biased(a), // ges
+        8 => biased(a) < biased(b), // lts
+        9 => biased(a) <= biased(b), // les
         _ => false,
     }
 }

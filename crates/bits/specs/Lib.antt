@@ -1,3 +1,3 @@
--- The definitions that every other crate's definitions are written with.
+-- The definitions that those of the instruction set and of the run are written with: choice, fields of a word, signed numbers.
 pub mod Choice
 pub mod Word

@@ -5,7 +5,7 @@ use Prim.Native.Nat.{ℕ}
 use denote.Enum.Declared.{tagOf}
 use types.Run.{OneOf, miss}
 use Rattle.effect.specs.Effect.{advances, raises, noStore}
-use Rattle.effect.specs.Action.{effectBy}
+use Rattle.effect.specs.Inner.{effectBy}
 use Rattle.effect.specs.declared.types.Inputs.{Inputs}
 use Rattle.effect.specs.declared.types.Action.{Action}
 use Rattle.effect.specs.declared.types.Action.the-variants.{Advance, Jump, Save, Fault, Overflow, Return, Halt, LoadLinked, SaveLinked, SaveUnlinked}

@@ -1,5 +1,10 @@
 -- A core's state, document 01's sheet: "What is lent".
-use Prim.Native.Nat.{ℕ}
+use mathlib.Core.Bool.{Bool, true, _&&_, _||_, not}
+use mathlib.Core.List.{List, [], _∷_}
+use Prim.Native.Nat.{ℕ, _%_}
+use lib.Dec.{eqb, leb}
+use Rattle.arith.specs.Status.{allowed}
+use Rattle.effect.specs.declared.types.Board.{Board}
 
 -- "42 32-bit words for each of 1 to 4 cores. 0–31: r0–r31. 32: PC, the next instruction's address. 33: delay, 1 if that instruction is in a
 -- delay slot, else 0. 34: target after the slot. 35: SR. 36: EPCR. 37: EEAR. 38: ESR. 39: link, 0 or 1. 40: link address. 41: mode, 0 halted
@@ -42,3 +47,30 @@ halted = 0
 
 abbrev pub running : ℕ
 running = 3
+
+-- ---- the rules on a state; one that breaks a rule is turned back by 3
+
+-- every test of a list passes
+abbrev pub all : List Bool → Bool
+all [] = true
+all (b ∷ l) = b && all l
+
+abbrev pub multiple : ℕ → Bool
+multiple x = eqb (x % 4) 0
+
+-- the rules on the state of a core of a board, g being its word at each place, in the paper's order (the same for every core of every board)
+abbrev pub rules : Board → ℕ → (ℕ → ℕ) → List Bool
+rules board core g =
+    leb (g delayAt) 1 ∷  -- "33: delay, 1 if that instruction is in a delay slot, else 0."
+    leb (g linkAt) 1 ∷  -- "39: link, 0 or 1."
+    (eqb (g modeAt) halted || eqb (g modeAt) running) ∷  -- "41: mode, 0 halted or 3 running."
+    eqb (g 0) 0 ∷  -- "r0 is 0;
+    multiple (g pcAt) ∷  -- PC,
+    multiple (g targetAt) ∷  -- target,
+    multiple (g epcrAt) ∷  -- EPCR
+    multiple (g linkAddressAt) ∷  -- and link address are multiples of 4;
+    (not (eqb (g delayAt) 0) || eqb (g targetAt) 0) ∷  -- target is 0 if delay is 0,
+    (not (eqb (g linkAt) 0) || eqb (g linkAddressAt) 0) ∷  -- link address 0 if link is 0.
+    eqb (allowed (g srAt)) (g srAt) ∷  -- SR
+    eqb (allowed (g esrAt)) (g esrAt) ∷  -- and ESR may have bits SM 0, .. DSX 13; bit 15 is 1, all others 0."
+    []

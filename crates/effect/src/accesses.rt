@@ -1,16 +1,14 @@
 // Loads, stores and the cache instructions: each tests its access first.
 ghost use mathlib.Core.Path.{_≡_};
-ghost use Rattle.memory.specs.Memory.{Width};
-ghost use Rattle.effect.specs.Effect.{effectiveAddress, load as loadOf, loadLinked, storing as storingOf, store as storeOf, linked as linkedOf, storeConditional, touch as touchOf, linking, saving, unlinking, noLink, noStore};
-ghost use Rattle.bits.specs.Word.{bit};
-ghost use Rattle.effect.specs.Action.{effectBy};
 ghost use Rattle.bits.specs.Choice.{if_then_else_};
+ghost use Rattle.bits.specs.Word.{bit};
+ghost use Rattle.memory.specs.Memory.{Width};
+ghost use Rattle.effect.specs.Effect.{effectiveAddress, load as loadOf, loadLinked, storing as storingOf, store as storeOf, linked as linkedOf, storeConditional, touch as touchOf, unlinking, noStore};
+ghost use Rattle.effect.specs.Inner.{effectBy};
 use crate::completed;
 use crate::raised;
 use crate::types::Action;
-use crate::types::Effect;
 use crate::types::Inputs;
-use crate::types::Link;
 use crate::types::Linked;
 use crate::types::Store;
 use memory::Access;
@@ -33,25 +31,6 @@ pub fn load(x: Inputs, mem: &[u8], width: u32, signed: bool) -> Action
         )),
         Access::Fault(cause) => raised::fault(cause, at),
     }
-}
-
-// The effect of l.lwa once its access is granted.
-pub fn load_linked_effect(x: Inputs, l: Linked) -> Effect
-    ensures { λ r. ⌜ r ≡ linking x (l .place) (l .value) (l .address) ⌝ }
-{
-    let link = Link {
-        held: 1,
-        address: l.address,
-    };
-    completed::complete(
-        l.place,
-        l.value,
-        x.sr,
-        completed::onward(x),
-        link,
-        3,
-        completed::no_store(),
-    )
 }
 
 // l.lwa.
@@ -79,14 +58,6 @@ fn storing(x: Inputs, width: u32) -> Store
     }
 }
 
-// The effect of a store.
-pub fn saved(x: Inputs, store: Store) -> Effect
-    ensures { λ r. ⌜ r ≡ saving x store ⌝ }
-{
-    let link = x.link;
-    completed::complete(0, 0, x.sr, completed::onward(x), link, 3, store)
-}
-
 pub fn store(x: Inputs, len: usize, width: u32) -> Action
     requires { ⌜ Width width ⌝ }
     ensures { λ r. ⌜ effectBy x r ≡ storeOf x len width ⌝ }
@@ -107,23 +78,6 @@ fn linked(x: Inputs) -> bool
     } else {
         false
     }
-}
-
-fn no_link() -> Link
-    ensures { λ r. ⌜ r ≡ noLink ⌝ }
-{
-    Link {
-        held: 0,
-        address: 0,
-    }
-}
-
-// The effect of l.swa once its access is granted: `t` if its link was to that word.
-pub fn store_conditional_effect(x: Inputs, t: bool, store: Store) -> Effect
-    ensures { λ r. ⌜ r ≡ unlinking x (bit t) store ⌝ }
-{
-    let sr = arith::set_flag(x.sr, t);
-    completed::complete(0, 0, sr, completed::onward(x), no_link(), 3, store)
 }
 
 fn conditional(x: Inputs) -> Action

@@ -1,32 +1,17 @@
 // Jumps, branches and the return from an exception: illegal in a delay slot.
 ghost use mathlib.Core.Path.{_≡_};
-ghost use Rattle.effect.specs.Effect.{jumping as jumpingOf, jump as jumpOf, relative as relativeOf, afterSlot, branch as branchOf, registerJump, returning, returns};
-ghost use Rattle.effect.specs.Action.{effectBy};
+ghost use Rattle.effect.specs.Effect.{jumping, jump as jumpOf, relative as relativeOf, afterSlot, branch as branchOf, registerJump, returns};
+ghost use Rattle.effect.specs.Inner.{effectBy};
 ghost use Rattle.effect.specs.declared.types.Inputs.{Inputs};
-use crate::completed;
+use crate::effects;
 use crate::raised;
 use crate::types::Action;
-use crate::types::Effect;
-use crate::types::Flow;
 use crate::types::Inputs;
 use crate::types::Jumped;
 use isa::vectors::Cause;
 
-// The effect of a jump: to its target after the slot.
-pub fn jumped(x: Inputs, j: Jumped) -> Effect
-    ensures { λ r. ⌜ r ≡ jumpingOf x (j .place) (j .value) (j .target) ⌝ }
-{
-    let flow = Flow {
-        pc: arith::address_add(x.flow.pc, 4),
-        delay: 1,
-        target: j.target,
-    };
-    let link = x.link;
-    completed::complete(j.place, j.value, x.sr, flow, link, 3, completed::no_store())
-}
-
-fn jumping(place: u32, value: u32, target: u32) -> Action
-    ensures { λ r. ⌜ ((x : Inputs) → effectBy x r ≡ jumpingOf x place value target) ⌝ }
+fn jump_to(place: u32, value: u32, target: u32) -> Action
+    ensures { λ r. ⌜ ((x : Inputs) → effectBy x r ≡ jumping x place value target) ⌝ }
 {
     Action::Jump(Jumped {
         place,
@@ -38,10 +23,10 @@ fn jumping(place: u32, value: u32, target: u32) -> Action
 pub fn jump(x: Inputs, place: u32, value: u32, to: u32) -> Action
     ensures { λ r. ⌜ effectBy x r ≡ jumpOf x place value to ⌝ }
 {
-    if completed::in_slot(x) {
+    if effects::in_slot(x) {
         return raised::illegal(x);
     }
-    jumping(place, value, to)
+    jump_to(place, value, to)
 }
 
 // The instruction's address plus its immediate.
@@ -71,32 +56,19 @@ pub fn branch(x: Inputs, taken: bool) -> Action
 pub fn register_jump(x: Inputs, place: u32, value: u32) -> Action
     ensures { λ r. ⌜ effectBy x r ≡ registerJump x place value ⌝ }
 {
-    if completed::in_slot(x) {
+    if effects::in_slot(x) {
         return raised::illegal(x);
     }
     if 0 < x.b % 4 {
         return raised::fault(Cause::Alignment, x.b);
     }
-    jumping(place, value, x.b)
-}
-
-// The effect of l.rfe outside a slot.
-pub fn returned(x: Inputs) -> Effect
-    ensures { λ r. ⌜ r ≡ returning x ⌝ }
-{
-    let flow = Flow {
-        pc: x.epcr,
-        delay: 0,
-        target: 0,
-    };
-    let link = x.link;
-    completed::complete(0, 0, x.esr, flow, link, 3, completed::no_store())
+    jump_to(place, value, x.b)
 }
 
 pub fn return_from_exception(x: Inputs) -> Action
     ensures { λ r. ⌜ effectBy x r ≡ returns x ⌝ }
 {
-    if completed::in_slot(x) {
+    if effects::in_slot(x) {
         return raised::illegal(x);
     }
     Action::Return

@@ -1,8 +1,9 @@
 // The special-purpose registers.
 ghost use mathlib.Core.Path.{_≡_};
 ghost use Rattle.effect.specs.Effect.{specialRegister, setsSpecialRegister};
-ghost use Rattle.effect.specs.Action.{goesOn};
+ghost use Rattle.effect.specs.Inner.{goesOn};
 use crate::completed;
+use crate::state;
 use crate::types::Board;
 use crate::types::Inputs;
 use crate::types::Written;
@@ -26,9 +27,9 @@ pub fn write(x: Inputs, n: u32, v: u32) -> Written
 {
     match n {
         17 => completed::written(0, 0, arith::keep_allowed(v)),
-        32 => completed::written(36, arith::align(v), x.sr),
-        48 => completed::written(37, v, x.sr),
-        64 => completed::written(38, arith::keep_allowed(v), x.sr),
+        32 => completed::written(state::EPCR as u32, arith::align(v), x.sr),
+        48 => completed::written(state::EEAR as u32, v, x.sr),
+        64 => completed::written(state::ESR as u32, arith::keep_allowed(v), x.sr),
         _ => completed::nothing(x),
     }
 }

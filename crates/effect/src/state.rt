@@ -21,5 +21,7 @@ pub const LINK_ADDRESS: usize = 40;
 
 pub const MODE: usize = 41;
 
-// The mode of a core that is not halted.
+// The modes.
+pub const HALTED: u32 = 0;
+
 pub const RUNNING: u32 = 3;

@@ -6,7 +6,7 @@ ghost use lib.Dec.{eqb};
 ghost use Rattle.arith.specs.Bit.{isSet};
 ghost use Rattle.arith.specs.Status.{OVE};
 ghost use Rattle.effect.specs.Effect.{flags as flagsOf, sumsOrRaises};
-ghost use Rattle.effect.specs.Action.{effectBy, summed};
+ghost use Rattle.effect.specs.Inner.{effectBy, summed};
 use crate::completed;
 use crate::types::Action;
 use crate::types::Inputs;

@@ -1,4 +1,3 @@
 pub mod Commits
 mod Executes
-mod Groups
 pub mod Own

@@ -3,10 +3,11 @@ ghost use mathlib.Core.List.{List};
 ghost use mathlib.Core.Path.{_≡_};
 ghost use Prim.Native.Nat.{ℕ, _+_, _*_, _≤_, _<_};
 ghost use lib.ListN.{length};
-ghost use Rattle.isa.specs.Parts.{Registers};
+ghost use Rattle.isa.specs.Inner.{Registers};
+ghost use Rattle.effect.specs.State.{stateWords};
 ghost use Rattle.effect.specs.Effect.{noStore};
 ghost use Rattle.semantics.specs.Commit.{inputs, effectOf, fetchFault, noFields};
-ghost use Rattle.exec.specs.Report.{tells, ownInputs, entryInputs, Executed};
+ghost use Rattle.exec.specs.Inner.{tells, ownInputs, entryInputs, OwnState, Executed};
 use effect::state;
 use effect::types::Board;
 use effect::types::Faulted;
@@ -29,9 +30,8 @@ pub struct Done {
 
 // What an instruction with the fields f reads of its core's own state.
 fn inputs_of(own: &[u32], core: usize, f: Fields) -> Inputs
-    requires { ⌜ 42 ≤ length (now own) ⌝ }
+    requires { ⌜ OwnState (now own) core ⌝ }
     requires { ⌜ Registers f ⌝ }
-    requires { ⌜ core < 4 ⌝ }
     ensures { λ r. ⌜ r ≡ ownInputs (now (own .entry)) core f ⌝ }
 {
     Inputs {
@@ -58,8 +58,7 @@ fn inputs_of(own: &[u32], core: usize, f: Fields) -> Inputs
 
 // The same for the instruction of an entry.
 pub fn inputs_at(own: &[u32], core: usize, entry: u64) -> Inputs
-    requires { ⌜ 42 ≤ length (now own) ⌝ }
-    requires { ⌜ core < 4 ⌝ }
+    requires { ⌜ OwnState (now own) core ⌝ }
     ensures { λ r. ⌜ r ≡ entryInputs (now (own .entry)) core entry ⌝ }
 {
     inputs_of(own, core, isa::entry::unpack(entry))
@@ -67,7 +66,7 @@ pub fn inputs_at(own: &[u32], core: usize, entry: u64) -> Inputs
 
 // What a core's state says by itself: the inputs of an instruction that has no fields.
 fn state_at(states: &[u32], core: usize) -> Inputs
-    requires { ⌜ core * 42 + 42 ≤ length (now states) ⌝ }
+    requires { ⌜ core * stateWords + stateWords ≤ length (now states) ⌝ }
     requires { ⌜ core < 4 ⌝ }
     ensures { λ r. ⌜ r ≡ inputs (now (states .entry)) core noFields ⌝ }
 {
@@ -89,7 +88,7 @@ fn no_fields() -> Fields
 
 // Executes an entry as it stands, whatever word memory holds: on the core's own part of the states, whose words are at fixed places.
 pub fn execute(board: Board, memory: &mut [u8], states: &mut [u32], core: usize, entry: u64) -> Done
-    requires { ⌜ core * 42 + 42 ≤ length (now states) ⌝ }
+    requires { ⌜ core * stateWords + stateWords ≤ length (now states) ⌝ }
     requires { ⌜ core < 4 ⌝ }
     ensures { λ r. ⌜ Executed (now (memory .entry)) (now (states .entry)) core (effectOf board (now (memory .entry)) (now (states .entry)) core entry) (now (memory .exit)) (now (states .exit)) r ⌝ }
 {
@@ -105,7 +104,7 @@ pub fn execute(board: Board, memory: &mut [u8], states: &mut [u32], core: usize,
 
 // A fetch outside memory raises bus error, and leaves memory; answers how the step ends.
 pub fn fetch_fault(states: &mut [u32], core: usize) -> Outcome
-    requires { ⌜ core * 42 + 42 ≤ length (now states) ⌝ }
+    requires { ⌜ core * stateWords + stateWords ≤ length (now states) ⌝ }
     requires { ⌜ core < 4 ⌝ }
     ensures { λ r. ⌜ ((mem : List ℕ) → Executed mem (now (states .entry)) core (fetchFault (now (states .entry)) core) mem (now (states .exit)) (tells r noStore)) ⌝ }
 {
@@ -116,5 +115,8 @@ pub fn fetch_fault(states: &mut [u32], core: usize) -> Outcome
     };
     let base = core * state::STATE_WORDS;
     let end = base + state::STATE_WORDS;
-    commit::commit_state(&mut states[base..end], effect::raised::faulted(x, fault))
+    commit::commit_state(
+        &mut states[base..end],
+        effect::effects::fault_effect(x, fault),
+    )
 }

@@ -11,10 +11,11 @@ use lib.ListN.{length}
 use borrow.Author.Tests.{eq-eqb, ne-eqb, eqb-true, eqb-false}
 use Rattle.bits.specs.Word.{field}
 use Rattle.bits.proofs.Tests.{and-left, and-right}
+use Rattle.isa.specs.Groups.{kinds}
 use Rattle.isa.specs.InstructionSet.{Field, D, A, B, I, Row, rows, illegal, fits, firstFit, rowOf, kindRow, width, read, immediate, immediateBits, pack, entry, decode, value, fill, wordFor, candidate}
 use Rattle.isa.specs.Encoding.{encode, Encodes}
 use Rattle.isa.specs.Entry.{fieldsOf}
-use Rattle.isa.specs.Parts.{kindOf, packed, fieldsIn, bitsOf}
+use Rattle.isa.specs.Inner.{kindOf, packed, fieldsIn, bitsOf}
 use Rattle.isa.specs.declared.encoder.Encoded.the-variants.{Word, Refused}
 use Rattle.isa.specs.declared.entry.Fields.{Fields}
 use Rattle.isa.specs.declared.kinds.Shape.{Shape}
@@ -270,11 +271,11 @@ pub decode-kind : (w : ℕ) → field (decode w) 56 8 ≡ kindOf w
 unfolding decode
 decode-kind w = entry-kind (firstFit rows w) w (first-sized w) ∙ sym (kind-first w)
 
-pub encodes-high : (e : ℕ) → 80 ≤ field e 56 8 → Encodes e Refused
+pub encodes-high : (e : ℕ) → kinds ≤ field e 56 8 → Encodes e Refused
 encodes-high e h =
     encodes-none e (λ q.
     let k : field e 56 8 ≡ kindOf (candidate e) = ap (λ n. field n 56 8) (sym q) ∙ decode-kind (candidate e) in
-    let l : kindOf (candidate e) < 80 = kind-range (candidate e) .1 in
+    let l : kindOf (candidate e) < kinds = kind-range (candidate e) .1 in
     omega arith)
 
 -- the word that the code makes for an entry

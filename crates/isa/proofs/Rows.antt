@@ -13,9 +13,10 @@ use lib.ListN.{length}
 use borrow.Author.Tests.{eq-eqb, ne-eqb}
 use Rattle.bits.specs.Choice.{if_then_else_}
 use Rattle.bits.specs.Word.{field, bitAt}
-use Rattle.bits.proofs.Tests.{and-left, and-right}
+use Rattle.bits.proofs.Tests.{and-left, and-right, everywhere, equal-but}
+use Rattle.isa.specs.Groups.{kinds}
 use Rattle.isa.specs.InstructionSet.{Field, D, A, B, I, Mark, must, of, reserved, Form, zext, sext, jump, Row, rows, illegal, fits, firstFit, rowOf, kindRow, entry, read, immediate}
-use Rattle.isa.specs.Parts.{kindOf, kindIn}
+use Rattle.isa.specs.Inner.{kindOf, kindIn}
 use Rattle.isa.proofs.Pictures.{Agree, fits-same}
 
 abbrev pub hit : Row → ℕ → Bool
@@ -265,12 +266,12 @@ found-row w = found rows w rows-apart
 
 -- ---- a row is its kind's, but for those of kind 1, which have no field
 
-pub kind-range : (w : ℕ) → (1 ≤ kindOf w) × (kindOf w < 80)
+pub kind-range : (w : ℕ) → (1 ≤ kindOf w) × (kindOf w < kinds)
 unfolding rows kindOf
 kind-range w =
     let k = firstFit rows w .kind in
-    let t : T (leb 1 k && ltb k 80) = first-has (λ r. leb 1 (r .kind) && ltb (r .kind) 80) rows w tt in
-    (leb→le 1 k (and-left (leb 1 k) (ltb k 80) t), ltb→lt k 80 (and-right (leb 1 k) (ltb k 80) t))
+    let t : T (leb 1 k && ltb k kinds) = first-has (λ r. leb 1 (r .kind) && ltb (r .kind) kinds) rows w tt in
+    (leb→le 1 k (and-left (leb 1 k) (ltb k kinds) t), ltb→lt k kinds (and-right (leb 1 k) (ltb k kinds) t))
 
 abbrev distinct : List Row → Bool
 distinct [] = true
@@ -355,10 +356,10 @@ own-row w n = other-row (firstFit rows w .kind) n ∙ ⊎-elim (λ e. absurd (n 
 
 -- what the decoder's match promises of its answer n for the word w
 abbrev pub Answer : ℕ → ℕ → Type 0
-Answer w n = (n ≡ kindOf w) × (n < 80)
+Answer w n = (n ≡ kindOf w) × (n < kinds)
 
 answer : (w n : ℕ) → n ≡ kindOf w → Answer w n
-answer w n e = (e, subst (λ (m : ℕ). m < 80) (sym e) (kind-range w .1))
+answer w n e = (e, subst (λ (m : ℕ). m < kinds) (sym e) (kind-range w .1))
 
 -- no row of the opcode tests a bit, and n is its kind
 abbrev pub settles : ℕ → ℕ → Bool
@@ -377,3 +378,10 @@ by-bits w o l k n e t a =
     let f = leb (l + k) 26 in
     let g = opcode-tests o (λ j. leb l j && ltb j (l + k)) rows in
     answer w n (a ∙ kind-by-bits w o l k (leb→le (l + k) 26 (and-left f g t)) e (and-right f g t))
+
+-- and f has their kinds
+pub by-field : (w o l k : ℕ) (f : ℕ → ℕ) (n : ℕ) → w / 2 ^ 26 ≡ o → T (leb (l + k) 26 && opcode-tests o (λ j. leb l j && ltb j (l + k)) rows)
+    → T (everywhere (λ x. false || eqb (f x) (kindIn o l x)) 0 (2 ^ k)) → n ≡ f (field w l k) → Answer w n
+by-field w o l k f n e t u a =
+    let h : field w l k < 2 ^ k = mod-lt (w / 2 ^ l) (pow-pos k) in
+    by-bits w o l k n e t (a ∙ equal-but f (kindIn o l) [] 0 (2 ^ k) u (field w l k) (omega arith) (omega arith) tt)

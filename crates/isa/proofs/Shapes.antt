@@ -11,10 +11,11 @@ use lib.ListN.{length, getD}
 use Rattle.bits.specs.Choice.{if_then_else_}
 use Rattle.bits.specs.Word.{field, bitAt}
 use Rattle.bits.proofs.Tests.{and-left, and-right, within, all-entries, at-entry}
+use Rattle.isa.specs.Groups.{kinds}
 use Rattle.isa.specs.InstructionSet as set
 use Rattle.isa.specs.InstructionSet.{Field, D, A, B, I, Mark, must, of, reserved, Row, rows, rowOf, kindRow, sameField, width, read, entry, fill, value, immediateBits, wordFor}
 use Rattle.isa.specs.Entry.{fieldsOf}
-use Rattle.isa.specs.Parts.{packed, fieldsIn, bitsOf, gathered, scattered, formOf, shapeIn}
+use Rattle.isa.specs.Inner.{packed, fieldsIn, bitsOf, gathered, scattered, formOf, shapeIn}
 use Rattle.isa.specs.declared.kinds.Place.{Place}
 use Rattle.isa.specs.declared.kinds.Place.the-variants.{None, Low5, Low16, Low26, Split}
 use Rattle.isa.specs.declared.kinds.Shape.{Shape}
@@ -333,10 +334,10 @@ pub record Describes (k : ℕ) (t : Shape) : Type 0 where
   pub small : (e : ℕ) → wordFor (kindRow k) e < 2 ^ 32
 
 -- the shape that a row's picture has says it, for every kind
-pub describes : (k : ℕ) → k < 80 → {t : Shape} → t ≡ shapeIn (kindRow k) → Describes k t
+pub describes : (k : ℕ) → k < kinds → {t : Shape} → t ≡ shapeIn (kindRow k) → Describes k t
 unfolding rows rowOf kindRow width
 describes k h {t} e =
-    let p : Placed (kindRow k) t = rw e (placed k (shapeIn (kindRow k)) (within (λ k. right k (shapeIn (kindRow k))) 0 80 tt k (omega arith) h)) in
+    let p : Placed (kindRow k) t = rw e (placed k (shapeIn (kindRow k)) (within (λ k. right k (shapeIn (kindRow k))) 0 kinds tt k (omega arith) h)) in
     record {
       fields = λ w. entry-placed (kindRow k) t w p;
       word = λ e. word-placed (kindRow k) t e p;

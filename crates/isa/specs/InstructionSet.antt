@@ -1,4 +1,4 @@
--- The instruction set: document 01, "Words and kinds" and refusal 8, in its order.
+-- The instruction set: document 01, "Words and kinds", in its order (refusal 8 stands in Encoding).
 use mathlib.Core.Bool.{Bool, true, false, _&&_}
 use mathlib.Core.List.{List, [], _∷_}
 use Prim.Native.Nat.{ℕ, suc, _+_, _*_, _/_, _^_}

@@ -2,10 +2,11 @@
 ghost use mathlib.Core.Path.{_≡_};
 ghost use Prim.Native.Nat.{_<_, _^_};
 ghost use Rattle.bits.specs.Choice.{if_then_else_};
-ghost use Rattle.isa.specs.InstructionSet.{immediateBits};
-ghost use Rattle.isa.specs.Parts.{Registers, formOf, scattered, bitsOf};
+ghost use Rattle.isa.specs.InstructionSet.{immediateBits, candidate};
+ghost use Rattle.isa.specs.Inner.{Registers, formOf, scattered, bitsOf};
 ghost use Rattle.isa.specs.Encoding.{Encodes};
 use crate::entry::Fields;
+use crate::groups;
 use crate::kinds::Form;
 use crate::kinds::Place;
 use crate::kinds::Shape;
@@ -61,17 +62,24 @@ fn field_word(shape: Shape, f: Fields) -> u32
         + placed(place, field_bits(form, f.immediate))
 }
 
-pub fn encode(e: u64) -> Encoded
+// The word, if it decodes to the entry.
+fn checked(e: u64, w: u32) -> Encoded
+    requires { ⌜ w ≡ candidate e ⌝ }
     ensures { λ r. ⌜ Encodes e r ⌝ }
 {
-    let k = (e / 0x100_0000_0000_0000) as u8;
-    if 80 <= k {
-        return Encoded::Refused;
-    }
-    let fields = field_word(crate::kinds::shape_of(k), crate::entry::unpack(e));
-    let w = crate::kinds::bare_word(k) + fields;
     if crate::decoder::decode(w) == e {
         return Encoded::Word(w);
     }
     Encoded::Refused
+}
+
+pub fn encode(e: u64) -> Encoded
+    ensures { λ r. ⌜ Encodes e r ⌝ }
+{
+    let k = (e / 0x100_0000_0000_0000) as u8;
+    if groups::KINDS <= k as usize {
+        return Encoded::Refused;
+    }
+    let fields = field_word(crate::kinds::shape_of(k), crate::entry::unpack(e));
+    checked(e, crate::kinds::bare_word(k) + fields)
 }

@@ -1,7 +1,7 @@
 // The fields of an instruction, and the 64-bit entry that holds them.
 ghost use mathlib.Core.Path.{_≡_};
 ghost use Rattle.isa.specs.Entry.{fieldsOf};
-ghost use Rattle.isa.specs.Parts.{Registers, packed};
+ghost use Rattle.isa.specs.Inner.{Registers, packed};
 
 pub struct Fields {
     pub d: u8,

@@ -1,8 +1,10 @@
 // What a word of each kind is made of: the constant tables that the decoder and the encoder read.
 ghost use mathlib.Core.Path.{_≡_};
 ghost use Prim.Native.Nat.{_<_};
+ghost use Rattle.isa.specs.Groups.{kinds};
 ghost use Rattle.isa.specs.InstructionSet.{kindRow, wordFor};
-ghost use Rattle.isa.specs.Parts.{shape as shaped, shapeOf, shapeIn};
+ghost use Rattle.isa.specs.Inner.{shape as shaped, shapeOf, shapeIn};
+use crate::groups::KINDS;
 
 // Where a word has its immediate.
 pub enum Place {
@@ -31,7 +33,7 @@ pub struct Shape {
 }
 
 // By kind, the word with every field 0. 0, which is no kind, stands as kind 1 does.
-const WORDS: [u32; 80] = [
+const WORDS: [u32; KINDS] = [
     0xfc000000, // 0: no kind
     0xfc000000, // 1 illegal
     0x00000000, // 2 l.j
@@ -115,7 +117,7 @@ const WORDS: [u32; 80] = [
 ];
 
 // By kind, the number of its layout.
-const LAYOUTS: [u8; 80] = [
+const LAYOUTS: [u8; KINDS] = [
     0, // 0: no kind
     0, // 1 illegal
     1, // 2 l.j
@@ -235,7 +237,7 @@ fn layout(n: u8) -> Shape
 
 // Which fields a word of kind k has.
 pub fn shape_of(k: u8) -> Shape
-    requires { ⌜ k < 80 ⌝ }
+    requires { ⌜ k < kinds ⌝ }
     ensures { λ r. ⌜ r ≡ shapeIn (kindRow k) ⌝ }
 {
     layout(LAYOUTS[k as usize])
@@ -243,7 +245,7 @@ pub fn shape_of(k: u8) -> Shape
 
 // The word of kind k with every field 0.
 pub fn bare_word(k: u8) -> u32
-    requires { ⌜ k < 80 ⌝ }
+    requires { ⌜ k < kinds ⌝ }
     ensures { λ r. ⌜ r ≡ wordFor (kindRow k) 0 ⌝ }
 {
     WORDS[k as usize]

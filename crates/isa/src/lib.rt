@@ -2,5 +2,6 @@
 pub mod decoder;
 pub mod encoder;
 pub mod entry;
+pub mod groups;
 pub mod kinds;
 pub mod vectors;

@@ -1,6 +1,6 @@
 // Where execution goes on after an exception: the constant table of vectors, by cause.
 ghost use mathlib.Core.Path.{_≡_};
-ghost use Rattle.isa.specs.Parts.{causeNumber};
+ghost use Rattle.isa.specs.Inner.{causeNumber};
 ghost use Rattle.isa.specs.Vectors.{vector as vectorOf};
 
 pub enum Cause {

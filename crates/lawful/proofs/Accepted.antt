@@ -7,9 +7,11 @@ use lib.Dec.{T, eqb, eqb→eq, leb→le, le→leb}
 use borrow.Author.Tests.{eq-eqb, eqb-true}
 use Rattle.bits.proofs.Tests.{and-left, and-right, and-both, T-of, Each}
 use Rattle.effect.specs.State.{halted, running}
+use Rattle.effect.specs.declared.types.Board.{Board}
 use Rattle.semantics.specs.Commit.{wordAt}
-use Rattle.lawful.specs.Rules.{Mode, is-halted, is-running}
-use Rattle.lawful.specs.Accepted.{all, rules, accepted, Accepted}
+use Rattle.lawful.specs.Inner.{Mode, is-halted, is-running}
+use Rattle.effect.specs.State.{all, rules}
+use Rattle.lawful.specs.Accepted.{accepted, Accepted}
 
 each-of : (l : List Bool) → T (all l) → Each l
 each-of [] t = tt
@@ -45,12 +47,12 @@ of-mode : {m : ℕ} → Mode m → T (eqb m halted || eqb m running)
 of-mode is-halted = tt
 of-mode is-running = tt
 
-module _ (s : List ℕ) (core : ℕ) where
-  pub accepted-means : T (accepted s core) → Accepted s core
+module _ (board : Board) (s : List ℕ) (core : ℕ) where
+  pub accepted-means : T (accepted board s core) → Accepted board s core
   unfolding accepted
   accepted-means t =
       let g : ℕ → ℕ = wordAt s core in
-      let h : Each (rules g) = each-of (rules g) t in
+      let h : Each (rules board core g) = each-of (rules board core g) t in
       record {
         zero-register = eqb→eq _ 0 (h .1 .1 .1 .0);
         flow-lawful = record {
@@ -70,12 +72,12 @@ module _ (s : List ℕ) (core : ℕ) where
         mode-lawful = mode-of _ (h .1 .1 .0);
       }
 
-  pub means-accepted : Accepted s core → T (accepted s core)
+  pub means-accepted : Accepted board s core → T (accepted board s core)
   unfolding accepted
   means-accepted a =
       let f = a .flow-lawful in
       let l = a .link-lawful in
-      of-each (rules (wordAt s core)) (
+      of-each (rules board core (wordAt s core)) (
         le→leb _ 1 (f .delay-bit),
         (
           le→leb _ 1 (l .held-bit),

@@ -12,11 +12,12 @@ use Rattle.bits.specs.Choice.{if_then_else_}
 use Rattle.bits.proofs.Tests.{and-left, and-right}
 use Rattle.effect.specs.State.{stateWords, pcAt, delayAt, targetAt, srAt, epcrAt, eearAt, esrAt, linkAt, linkAddressAt, modeAt}
 use Rattle.isa.specs.Vectors.{vector}
+use Rattle.effect.specs.declared.types.Board.{Board}
 use Rattle.effect.specs.declared.types.Outcome.{Outcome}
 use Rattle.effect.specs.declared.types.Outcome.the-variants.{Completed, Raised}
 use Rattle.effect.specs.declared.types.Effect.{Effect}
 use Rattle.semantics.specs.Commit.{wordAt, put, putValue, putFlow, putStatus, putException, ownState}
-use Rattle.lawful.specs.Rules.{Status, Multiple, LawfulState, LawfulWord, to-register, to-epcr, to-eear, to-esr, LawfulOutcome, completes, raised, Lawful}
+use Rattle.lawful.specs.Inner.{Status, Multiple, LawfulState, LawfulWord, to-register, to-epcr, to-eear, to-esr, LawfulOutcome, completes, raised, Lawful}
 use Rattle.lawful.specs.Accepted.{Accepted}
 use Rattle.lawful.proofs.Cases.{if-law, if-both}
 use Rattle.lawful.proofs.Lawful.{vector-multiple}
@@ -102,7 +103,8 @@ own-other s core e c j h n g =
 
 -- ---- an accepted state stays accepted
 
-pub lawful-same : (g h : ℕ → ℕ) → ((j : ℕ) → j < stateWords → h j ≡ g j) → LawfulState g → LawfulState h
+pub lawful-same : {board : Board} {core : ℕ} (g h : ℕ → ℕ) → ((j : ℕ) → j < stateWords → h j ≡ g j) → LawfulState board core g
+    → LawfulState board core h
 lawful-same g h q a =
     let r0 : h 0 ≡ g 0 = q 0 (omega arith) in
     let r32 : h pcAt ≡ g pcAt = q pcAt (omega arith) in
@@ -130,7 +132,7 @@ record Value (g : ℕ → ℕ) : Type 0 where
   epcr-kept : Multiple (g epcrAt)
   esr-kept : Status (g esrAt)
 
-module _ (s : List ℕ) (core : ℕ) (fits : core * stateWords + stateWords ≤ length s) (a : Accepted s core) where
+module _ {board : Board} (s : List ℕ) (core : ℕ) (fits : core * stateWords + stateWords ≤ length s) (a : Accepted board s core) where
   value-kept : (p v : ℕ) → LawfulWord p v → Value (wordAt (if eqb p 0 then s else put s core p v) core)
   value-kept p v w =
       if-law (λ (t : List ℕ). Value (wordAt t core)) (eqb p 0)
@@ -170,7 +172,7 @@ module _ (s : List ℕ) (core : ℕ) (fits : core * stateWords + stateWords ≤ 
           }
 
   changed : (e : Effect) → Lawful e → {o : Outcome} → LawfulOutcome o → (t : List ℕ) → Value (wordAt t core)
-      → LawfulState (λ j. seen (changes e o) j (wordAt t core j))
+      → LawfulState board core (λ j. seen (changes e o) j (wordAt t core j))
   changed e l completes t v =
       record {
         zero-register = v .zero-kept;
@@ -197,7 +199,7 @@ module _ (s : List ℕ) (core : ℕ) (fits : core * stateWords + stateWords ≤ 
         mode-lawful = l .mode-lawful;
       }
 
-  pub own-accepted : (e : Effect) → Lawful e → Accepted (ownState s core e) core
+  pub own-accepted : (e : Effect) → Lawful e → Accepted board (ownState s core e) core
   unfolding putValue
   own-accepted e l =
       let t = putValue s core e in

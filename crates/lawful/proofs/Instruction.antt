@@ -9,15 +9,15 @@ use borrow.Author.Tests.{ltb-false}
 use Rattle.bits.specs.Word.{field}
 use Rattle.isa.specs.InstructionSet.{decode}
 use Rattle.isa.specs.Entry.{fieldsOf}
-use Rattle.isa.specs.Parts.{Registers}
+use Rattle.isa.specs.Inner.{Registers}
 use Rattle.isa.specs.declared.entry.Fields.{Fields}
 use Rattle.memory.specs.Memory.{stored, memoryWord}
 use Rattle.memory.proofs.Laws.{length-stored, other-word-kept}
 use Rattle.effect.specs.declared.types.Board.{Board}
 use Rattle.effect.specs.declared.types.Effect.{Effect}
-use Rattle.semantics.specs.Commit.{inputs, stores, touched, memoryAfter, effectOf}
-use Rattle.lawful.specs.Sound.{Sound, SoundStore, none, some}
-use Rattle.lawful.specs.Rules.{LawfulInputs, Lawful}
+use Rattle.semantics.specs.Commit.{inputs, writesMemory, touched, memoryAfter, effectOf}
+use Rattle.lawful.specs.Inner.{Sound, SoundStore, none, some}
+use Rattle.lawful.specs.Inner.{LawfulInputs, Lawful}
 use Rattle.lawful.specs.Accepted.{Accepted}
 use Rattle.lawful.proofs.Sound.{meaning-sound}
 use Rattle.lawful.proofs.Lawful.{meaning-lawful}
@@ -28,7 +28,7 @@ use Rattle.lawful.proofs.Jumps.{decoded-jump}
 pub fields-registers : (entry : ℕ) → Registers (fieldsOf entry)
 fields-registers entry = record { d = omega arith; a = omega arith; b = omega arith }
 
-pub inputs-lawful : (s : List ℕ) (core : ℕ) (f : Fields) → f .d < 32 → Accepted s core → LawfulInputs (inputs s core f)
+pub inputs-lawful : {board : Board} (s : List ℕ) (core : ℕ) (f : Fields) → f .d < 32 → Accepted board s core → LawfulInputs (inputs s core f)
 unfolding inputs
 inputs-lawful s core f h a =
     record {
@@ -50,7 +50,7 @@ module _ (board : Board) (mem s : List ℕ) (core : ℕ) where
 
   -- that of an entry that some word decodes to
   module _ (w : ℕ) where
-    pub decoded-lawful : Accepted s core → Lawful (effectOf board mem s core (decode w))
+    pub decoded-lawful : Accepted board s core → Lawful (effectOf board mem s core (decode w))
     unfolding inputs
     decoded-lawful a =
         let f = fieldsOf (decode w) in
@@ -62,7 +62,7 @@ pub length-memory : (mem : List ℕ) (e : Effect) → length (memoryAfter mem e)
 unfolding memoryAfter
 length-memory mem e = length-stored (e .store .width) mem (e .store .address) (e .store .value)
 
-pub no-store-kept : (mem : List ℕ) (e : Effect) → stores e ≡ false → memoryAfter mem e ≡ mem
+pub no-store-kept : (mem : List ℕ) (e : Effect) → writesMemory e ≡ false → memoryAfter mem e ≡ mem
 unfolding memoryAfter stored
 no-store-kept mem e h =
     let n : e .store .width ≤ 0 = ltb-false 0 (e .store .width) h in

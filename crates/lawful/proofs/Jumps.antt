@@ -1,30 +1,31 @@
 -- A decoded jump or branch has a multiple of 4 for its immediate. Assumes nothing.
 use mathlib.Core.Bool.{Bool, true, false, _&&_, _||_, not}
 use mathlib.Core.Path.{_≡_, refl, _∙_}
-use Prim.Native.Nat.{ℕ, _*_, _%_, _^_, _<_, _≤_}
+use Prim.Native.Nat.{ℕ, _*_, _%_, _^_, _<_}
 use native.Mathlib.Omega.{arith}
-use lib.Dec.{T, eqb, leb, eqb→eq}
-use borrow.Author.Tests.{le-leb}
-use Rattle.bits.specs.Word.{field, extend}
+use lib.Dec.{T, eqb, leb, ltb, eqb→eq}
+use borrow.Author.Tests.{le-leb, lt-ltb}
+use Rattle.bits.specs.Word.{extend}
 use Rattle.bits.proofs.Extend.{by-half, extend-low, extend-high, extend-lt}
 use Rattle.bits.proofs.Tests.{and-left, and-right}
 use Rattle.isa.specs.InstructionSet.{I, Form, zext, sext, jump, Row, rows, firstFit, width, read, immediate, pack, entry, decode}
-use Rattle.isa.specs.Entry.{fieldsOf}
-use Rattle.isa.specs.Parts.{kindOf}
+use Rattle.isa.specs.Groups.{firstBranch, firstNopMovhi, IsBranch}
+use Rattle.isa.specs.Entry.{kindOfEntry, fieldsOf}
+use Rattle.isa.specs.Inner.{kindOf}
 use Rattle.isa.proofs.Complete.{decode-kind}
 use Rattle.isa.proofs.Immediates.{jump-extend}
 use Rattle.isa.proofs.Pictures.{read-lt}
 use Rattle.isa.proofs.Rows.{every-row, first-has}
-use Rattle.lawful.specs.Rules.{Multiple}
+use Rattle.lawful.specs.Inner.{Multiple}
 
--- a row of kind 2 to 5 keeps a jump's immediate, of 26 bits
+-- a row of a branch keeps a jump's immediate, of 26 bits
 abbrev is-jump : Form → Bool
 is-jump zext = false
 is-jump sext = false
 is-jump jump = true
 
 abbrev jumps : Row → Bool
-jumps r = not (leb 2 (r .kind) && leb (r .kind) 5) || (is-jump (r .form) && eqb (width I (r .bits)) 26)
+jumps r = not (leb firstBranch (r .kind) && ltb (r .kind) firstNopMovhi) || (is-jump (r .form) && eqb (width I (r .bits)) 26)
 
 rows-jump : T (every-row jumps rows)
 unfolding rows width
@@ -59,12 +60,12 @@ row-immediate r w t =
     of-form sext u m = absurd u
     of-form jump u m = refl
 
-by-kind : (w : ℕ) → 2 ≤ kindOf w → kindOf w ≤ 5 → Multiple (decode w % 2 ^ 32)
+by-kind : (w : ℕ) → IsBranch (kindOf w) → Multiple (decode w % 2 ^ 32)
 unfolding kindOf decode
-by-kind w h g =
+by-kind w h =
     let r = firstFit rows w in
     let t : T (jumps r) = first-has jumps rows w rows-jump in
-    row-immediate r w (rw (le-leb 2 (r .kind) h, le-leb (r .kind) 5 g) at t)
+    row-immediate r w (rw (le-leb firstBranch (r .kind) (h .0), lt-ltb (r .kind) firstNopMovhi (h .1)) at t)
 
-pub decoded-jump : (w : ℕ) → 2 ≤ field (decode w) 56 8 → field (decode w) 56 8 ≤ 5 → Multiple (fieldsOf (decode w) .immediate)
-decoded-jump w h g = by-kind w (rw (decode-kind w) at h) (rw (decode-kind w) at g)
+pub decoded-jump : (w : ℕ) → IsBranch (kindOfEntry (decode w)) → Multiple (fieldsOf (decode w) .immediate)
+decoded-jump w h = by-kind w (rw (decode-kind w) at h)

@@ -12,6 +12,7 @@ use Rattle.bits.specs.Word.{bit, word}
 use Rattle.isa.specs.Vectors.{vector}
 use Rattle.isa.specs.declared.vectors.Cause.{Cause}
 use Rattle.isa.specs.declared.vectors.Cause.the-variants.{Bus, Alignment, Illegal, Range, Syscall, Trap}
+use Rattle.isa.specs.Groups.{IsBranch}
 use Rattle.arith.specs.Bit.{isSet}
 use Rattle.arith.specs.Status.{OVE, aligned}
 use Rattle.arith.specs.Sums.{addressSum, addressDifference}
@@ -28,7 +29,7 @@ use Rattle.effect.specs.declared.types.Flow.{Flow}
 use Rattle.effect.specs.declared.types.Link.{Link}
 use Rattle.effect.specs.declared.types.Store.{Store}
 use Rattle.semantics.specs.Meaning.{meaning}
-use Rattle.lawful.specs.Rules.{Status, Multiple, LawfulFlow, LawfulLink, Mode, is-halted, is-running, LawfulInputs, LawfulWord, to-register, to-epcr, to-eear, to-esr, completes, raised, Lawful}
+use Rattle.lawful.specs.Inner.{Status, Multiple, LawfulFlow, LawfulLink, Mode, is-halted, is-running, LawfulInputs, LawfulWord, to-register, to-epcr, to-eear, to-esr, completes, raised, Lawful}
 use Rattle.lawful.proofs.Cases.{if-law, if-both, reaches-law}
 use Rattle.lawful.proofs.Table.{meaning-has}
 
@@ -213,7 +214,7 @@ module _ (x : Inputs) (i : LawfulInputs x) where
 
   -- ---- every instruction: a jump or branch by its immediate needs a multiple of 4
 
-  pub meaning-lawful : (board : Board) (mem : List ℕ) (k : ℕ) → (2 ≤ k → k ≤ 5 → Multiple (x .immediate)) → Lawful (meaning board mem k x)
+  pub meaning-lawful : (board : Board) (mem : List ℕ) (k : ℕ) → (IsBranch k → Multiple (x .immediate)) → Lawful (meaning board mem k x)
   meaning-lawful board mem k m =
       meaning-has Lawful (Multiple (x .immediate)) board mem x
       record {

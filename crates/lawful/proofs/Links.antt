@@ -11,6 +11,7 @@ use Rattle.bits.specs.Choice.{if_then_else_}
 use Rattle.effect.specs.State.{stateWords, linkAt, linkAddressAt}
 use Rattle.effect.specs.Effect.{noLink}
 use Rattle.effect.specs.declared.types.Link.{Link}
+use Rattle.effect.specs.declared.types.Board.{Board}
 use Rattle.semantics.specs.Commit.{wordAt, coreCount, clearLink, clearLinks}
 use Rattle.lawful.specs.Accepted.{Accepted, AllAccepted}
 use Rattle.lawful.proofs.Cases.{if-both, by-equality}
@@ -57,10 +58,10 @@ module _ (s : List ℕ) (core w : ℕ) where
             (puts-seen cleared s core linkAddressAt (omega arith))
         go false = refl
 
-    clear-own : Accepted s core → Accepted (clearLink s core w) core
+    clear-own : {board : Board} → Accepted board s core → Accepted board (clearLink s core w) core
     unfolding clearLink
-    clear-own a =
-        if-both (λ (t : List ℕ). Accepted t core) (linkedTo (linkOf s core) w)
+    clear-own {board} a =
+        if-both (λ (t : List ℕ). Accepted board t core) (linkedTo (linkOf s core) w)
         (lawful-same (λ j. seen cleared j (wordAt s core j)) (wordAt (puts cleared s core) core) (λ j h. puts-seen cleared s core j (omega arith))
         record {
           zero-register = a .zero-register;
@@ -73,7 +74,7 @@ module _ (s : List ℕ) (core w : ℕ) where
         })
         a
 
-    clear-accepted : AllAccepted s → AllAccepted (clearLink s core w)
+    clear-accepted : {board : Board} → AllAccepted board s → AllAccepted board (clearLink s core w)
     clear-accepted a c h =
         let l : length (clearLink s core w) ≡ length s = length-clear in
         by-equality c core (λ e. rw e (clear-own (a core (omega arith))))
@@ -121,7 +122,7 @@ module _ (s : List ℕ) (w : ℕ) where
       ap₂ (λ (u v : ℕ). record { held = u; address = v }) (clear-other t n w c linkAt m (omega arith)) (clear-other t n w c linkAddressAt m (omega arith))
       ∙ clears-link n c (omega arith) (omega arith))
 
-  pub clears-accepted : (n : ℕ) → n ≤ coreCount s → AllAccepted s → AllAccepted (clearLinks n s w)
+  pub clears-accepted : {board : Board} (n : ℕ) → n ≤ coreCount s → AllAccepted board s → AllAccepted board (clearLinks n s w)
   unfolding clearLinks
   clears-accepted zero h a = a
   clears-accepted (suc n) h a =

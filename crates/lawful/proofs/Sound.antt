@@ -18,10 +18,10 @@ use Rattle.effect.specs.State.{stateWords, epcrAt, eearAt, esrAt}
 use Rattle.effect.specs.Effect.{inSlot, advances, nop, setsFlag, raises, faults, syscall, sums, sumsOrRaises, jump, branch, registerJump, returns, load, loadLinked, storing, store, linked, storeConditional, touch, setsSpecialRegister, effectiveAddress}
 use Rattle.effect.specs.declared.types.Inputs.{Inputs}
 use Rattle.effect.specs.declared.types.Board.{Board}
-use Rattle.semantics.specs.Meaning.{control, loads, immediates, stores, registers, compares, caches, meaning}
-use Rattle.lawful.specs.Sound.{Sound, InWord, SoundStore, none, some}
+use Rattle.semantics.specs.Meaning.{meaning}
+use Rattle.lawful.specs.Inner.{Sound, InWord, SoundStore, none, some}
 use Rattle.lawful.proofs.Cases.{if-both, reaches-law}
-use Rattle.lawful.proofs.Table.{Lines, control-has, loads-have, immediates-have, stores-have, registers-have, compares-have, caches-have, meaning-has}
+use Rattle.lawful.proofs.Table.{Lines, meaning-has}
 
 -- ---- the effects, one by one
 
@@ -144,26 +144,5 @@ sound-lines mem x d =
     }
 
 module _ (board : Board) (mem : List ℕ) (x : Inputs) (d : x .d < 32) where
-  pub control-sound : (k : ℕ) → Sound (length mem) (control k x)
-  control-sound k = control-has (Sound (length mem)) Unit board mem x (sound-lines mem x d) k (λ _ _. tt)
-
-  pub loads-sound : (k : ℕ) → Sound (length mem) (loads mem k x)
-  loads-sound k = loads-have (Sound (length mem)) Unit board mem x (sound-lines mem x d) k
-
-  pub immediates-sound : (k : ℕ) → Sound (length mem) (immediates board k x)
-  immediates-sound k = immediates-have (Sound (length mem)) Unit board mem x (sound-lines mem x d) k
-
-  pub stores-sound : (k : ℕ) → Sound (length mem) (stores (length mem) k x)
-  stores-sound k = stores-have (Sound (length mem)) Unit board mem x (sound-lines mem x d) k
-
-  pub registers-sound : (k : ℕ) → Sound (length mem) (registers k x)
-  registers-sound k = registers-have (Sound (length mem)) Unit board mem x (sound-lines mem x d) k
-
-  pub compares-sound : (n b : ℕ) → Sound (length mem) (compares n x b)
-  compares-sound n b = compares-have (Sound (length mem)) Unit board mem x (sound-lines mem x d) n b
-
-  pub caches-sound : (k : ℕ) → Sound (length mem) (caches (length mem) k x)
-  caches-sound k = caches-have (Sound (length mem)) Unit board mem x (sound-lines mem x d) k
-
   pub meaning-sound : (k : ℕ) → Sound (length mem) (meaning board mem k x)
-  meaning-sound k = meaning-has (Sound (length mem)) Unit board mem x (sound-lines mem x d) k (λ _ _. tt)
+  meaning-sound k = meaning-has (Sound (length mem)) Unit board mem x (sound-lines mem x d) k (λ _. tt)

@@ -10,8 +10,9 @@ use Rattle.effect.specs.State.{stateWords, linkAt, linkAddressAt}
 use Rattle.effect.specs.Effect.{noLink}
 use Rattle.effect.specs.declared.types.Link.{Link}
 use Rattle.effect.specs.declared.types.Effect.{Effect}
-use Rattle.semantics.specs.Commit.{wordAt, coreCount, ownState, clearLinks, stores, touched, statesAfter}
-use Rattle.lawful.specs.Rules.{LawfulWord, to-register, to-epcr, to-eear, to-esr, Lawful}
+use Rattle.effect.specs.declared.types.Board.{Board}
+use Rattle.semantics.specs.Commit.{wordAt, coreCount, ownState, clearLinks, writesMemory, touched, statesAfter}
+use Rattle.lawful.specs.Inner.{LawfulWord, to-register, to-epcr, to-eear, to-esr, Lawful}
 use Rattle.lawful.specs.Accepted.{AllAccepted}
 use Rattle.lawful.proofs.Cases.{if-both, by-equality}
 use Rattle.lawful.proofs.Commit.{length-own, own-other, own-accepted, lawful-same}
@@ -28,7 +29,7 @@ module _ (s : List ℕ) (core : ℕ) (e : Effect) where
   pub length-states : length (statesAfter s core e) ≡ length s
   unfolding statesAfter
   length-states =
-      if-both (λ (t : List ℕ). length t ≡ length s) (stores e)
+      if-both (λ (t : List ℕ). length t ≡ length s) (writesMemory e)
       (length-clears (ownState s core e) (touched e * 4) (coreCount s) ∙ length-own s core e) (length-own s core e)
 
   -- another core's state changes in nothing but its link
@@ -39,11 +40,11 @@ module _ (s : List ℕ) (core : ℕ) (e : Effect) where
       let t = ownState s core e in
       let l : length t ≡ length s = length-own s core e in
       let o : wordAt t c j ≡ wordAt s c j = own-other s core e c j h n i in
-      if-both (λ (u : List ℕ). wordAt u c j ≡ wordAt s c j) (stores e) (clears-rest t (touched e * 4) (coreCount s) c j (omega arith) i p q ∙ o) o
+      if-both (λ (u : List ℕ). wordAt u c j ≡ wordAt s c j) (writesMemory e) (clears-rest t (touched e * 4) (coreCount s) c j (omega arith) i p q ∙ o) o
 
   -- which is cleared by a store to its word, and else stays
   pub other-link : (c : ℕ) → e .place < stateWords → (c ≡ core → ⊥) → c < coreCount s
-      → linkOf (statesAfter s core e) c ≡ (if stores e && linkedTo (linkOf s c) (touched e * 4) then noLink else linkOf s c)
+      → linkOf (statesAfter s core e) c ≡ (if writesMemory e && linkedTo (linkOf s c) (touched e * 4) then noLink else linkOf s c)
   unfolding statesAfter
   other-link c h n i =
       let t = ownState s core e in
@@ -51,7 +52,7 @@ module _ (s : List ℕ) (core : ℕ) (e : Effect) where
       let o : linkOf t c ≡ linkOf s c =
       ap₂ (λ (u v : ℕ). record { held = u; address = v }) (own-other s core e c linkAt h n (omega arith))
       (own-other s core e c linkAddressAt h n (omega arith)) in
-      go o (clears-link t (touched e * 4) (coreCount s) c (omega arith) i) (stores e)
+      go o (clears-link t (touched e * 4) (coreCount s) c (omega arith) i) (writesMemory e)
     where
       go : linkOf (ownState s core e) c ≡ linkOf s c
           → linkOf (clearLinks (coreCount s) (ownState s core e) (touched e * 4)) c
@@ -62,12 +63,12 @@ module _ (s : List ℕ) (core : ℕ) (e : Effect) where
       go o k true = k ∙ ap (λ (m : Link). if linkedTo m (touched e * 4) then noLink else m) o
       go o k false = o
 
-  pub states-accepted : Lawful e → core < coreCount s → AllAccepted s → AllAccepted (statesAfter s core e)
+  pub states-accepted : {board : Board} → Lawful e → core < coreCount s → AllAccepted board s → AllAccepted board (statesAfter s core e)
   unfolding statesAfter
-  states-accepted l h a =
-      if-both AllAccepted (stores e) (clears-accepted (ownState s core e) (touched e * 4) (coreCount s) (omega (arith, length-own s core e)) own) own
+  states-accepted {board} l h a =
+      if-both (AllAccepted board) (writesMemory e) (clears-accepted (ownState s core e) (touched e * 4) (coreCount s) (omega (arith, length-own s core e)) own) own
     where
-      own : AllAccepted (ownState s core e)
+      own : AllAccepted board (ownState s core e)
       own c i =
           let n : length (ownState s core e) ≡ length s = length-own s core e in
           by-equality c core (λ q. rw q (own-accepted s core (omega arith) (a core h) e l))

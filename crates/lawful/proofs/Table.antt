@@ -2,12 +2,13 @@
 use mathlib.Core.Bool.{Bool, true, false}
 use mathlib.Core.List.{List}
 use mathlib.Core.Path.{_≡_}
-use Prim.Native.Nat.{ℕ, _-_, _<_, _≤_}
+use Prim.Native.Nat.{ℕ, _-_, _<_}
 use native.Mathlib.Omega.{arith}
 use lib.Dec.{eqb, ltb}
 use lib.ListN.{length}
 use borrow.Author.Tests.{eqb-true}
 use Rattle.bits.specs.Word.{bitAt}
+use Rattle.isa.specs.Groups.{firstNopMovhi, firstControl, firstLoad, firstImmediate, firstCompareImmediate, firstStore, firstArithmetic, firstLogic, firstCompare, firstCache, IsBranch}
 use Rattle.arith.specs.Status.{CY}
 use Rattle.arith.specs.declared.Flagged.{Flagged}
 use Rattle.arith.proofs.Sums.{Ranged, sum-ranged, difference-ranged}
@@ -16,7 +17,7 @@ use Rattle.effect.specs.Effect.{writes, nothing, setsFlag, nop, illegal, trap, 
 use Rattle.effect.specs.declared.types.Inputs.{Inputs}
 use Rattle.effect.specs.declared.types.Board.{Board}
 use Rattle.effect.specs.declared.types.Effect.{Effect}
-use Rattle.semantics.specs.Meaning.{control, loads, immediates, stores, registers, compares, caches, meaning}
+use Rattle.semantics.specs.Meaning.{branches, nopMovhi, control, loads, immediates, stores, arithmetic, logic, caches, meaning}
 use Rattle.lawful.proofs.Cases.{if-law, if-both}
 
 -- P holds of every effect that a line of the table may be; J is what a jump or branch by its immediate needs
@@ -42,15 +43,25 @@ pub record Lines (P : Effect → Type 0) (J : Type 0) (mem : List ℕ) (x : Inpu
   pub of-special : (n v : ℕ) → P (setsSpecialRegister x n v)
 
 module _ (P : Effect → Type 0) (J : Type 0) (board : Board) (mem : List ℕ) (x : Inputs) (l : Lines P J mem x) where
-  pub control-has : (k : ℕ) → (2 ≤ k → k ≤ 5 → J) → P (control k x)
-  unfolding control
-  control-has k j =
-      if-law P (eqb k 2) (λ e. let h : k ≡ 2 = eqb-true k 2 e in l .of-jump (j (omega arith) (omega arith)) 0 0 (omega arith)) (λ _.
-      if-law P (eqb k 3) (λ e. let h : k ≡ 3 = eqb-true k 3 e in l .of-jump (j (omega arith) (omega arith)) 9 _ (omega arith)) (λ _.
-      if-law P (eqb k 4) (λ e. let h : k ≡ 4 = eqb-true k 4 e in l .of-branch (j (omega arith) (omega arith)) _) (λ _.
-      if-law P (eqb k 5) (λ e. let h : k ≡ 5 = eqb-true k 5 e in l .of-branch (j (omega arith) (omega arith)) _) (λ _.
+  branches-have : (k : ℕ) → (IsBranch k → J) → P (branches k x)
+  unfolding branches
+  branches-have k j =
+      if-law P (eqb k 2) (λ e. let h : k ≡ 2 = eqb-true k 2 e in l .of-jump (j (omega arith, omega arith)) 0 0 (omega arith)) (λ _.
+      if-law P (eqb k 3) (λ e. let h : k ≡ 3 = eqb-true k 3 e in l .of-jump (j (omega arith, omega arith)) 9 _ (omega arith)) (λ _.
+      if-law P (eqb k 4) (λ e. let h : k ≡ 4 = eqb-true k 4 e in l .of-branch (j (omega arith, omega arith)) _) (λ _.
+      if-law P (eqb k 5) (λ e. let h : k ≡ 5 = eqb-true k 5 e in l .of-branch (j (omega arith, omega arith)) _) (λ _.
+      l .of-illegal))))
+
+  nop-movhi-have : (k : ℕ) → P (nopMovhi k x)
+  unfolding nopMovhi
+  nop-movhi-have k =
       if-both P (eqb k 6) (l .of-nop) (
       if-both P (eqb k 7) (l .of-writes _) (
+      l .of-illegal))
+
+  control-have : (k : ℕ) → P (control k x)
+  unfolding control
+  control-have k =
       if-both P (eqb k 8) (l .of-syscall) (
       if-both P (eqb k 9) (l .of-trap) (
       if-both P (eqb k 10) (l .of-nothing) (
@@ -59,9 +70,9 @@ module _ (P : Effect → Type 0) (J : Type 0) (board : Board) (mem : List ℕ) (
       if-both P (eqb k 13) (l .of-return) (
       if-both P (eqb k 14) (l .of-register-jump 0 0 (omega arith)) (
       if-both P (eqb k 15) (l .of-register-jump 9 _ (omega arith)) (
-      l .of-illegal))))))))))))))
+      l .of-illegal))))))))
 
-  pub loads-have : (k : ℕ) → P (loads mem k x)
+  loads-have : (k : ℕ) → P (loads mem k x)
   unfolding loads
   loads-have k =
       if-both P (eqb k 16) (l .of-load-linked) (
@@ -73,7 +84,7 @@ module _ (P : Effect → Type 0) (J : Type 0) (board : Board) (mem : List ℕ) (
       if-both P (eqb k 22) (l .of-load 2 true) (
       l .of-illegal)))))))
 
-  pub immediates-have : (k : ℕ) → P (immediates board k x)
+  immediates-have : (k : ℕ) → P (immediates board k x)
   unfolding immediates
   immediates-have k =
       if-both P (eqb k 23) (l .of-sums _ (sum-ranged (x .a) (x .immediate) 0)) (
@@ -88,7 +99,7 @@ module _ (P : Effect → Type 0) (J : Type 0) (board : Board) (mem : List ℕ) (
       if-both P (eqb k 32) (l .of-writes _) (
       l .of-illegal))))))))))
 
-  pub stores-have : (k : ℕ) → P (stores (length mem) k x)
+  stores-have : (k : ℕ) → P (stores (length mem) k x)
   unfolding stores
   stores-have k =
       if-both P (eqb k 43) (l .of-special _ _) (
@@ -98,12 +109,17 @@ module _ (P : Effect → Type 0) (J : Type 0) (board : Board) (mem : List ℕ) (
       if-both P (eqb k 47) (l .of-store half-wide) (
       l .of-illegal)))))
 
-  pub registers-have : (k : ℕ) → P (registers k x)
-  unfolding registers
-  registers-have k =
+  arithmetic-have : (k : ℕ) → P (arithmetic k x)
+  unfolding arithmetic
+  arithmetic-have k =
       if-both P (eqb k 48) (l .of-raising-sums _ (sum-ranged (x .a) (x .b) 0)) (
       if-both P (eqb k 49) (l .of-raising-sums _ (sum-ranged (x .a) (x .b) (bitAt CY (x .sr)))) (
       if-both P (eqb k 50) (l .of-raising-sums _ (difference-ranged (x .a) (x .b))) (
+      l .of-illegal)))
+
+  logic-have : (k : ℕ) → P (logic k x)
+  unfolding logic
+  logic-have k =
       if-both P (eqb k 51) (l .of-writes _) (
       if-both P (eqb k 52) (l .of-writes _) (
       if-both P (eqb k 53) (l .of-writes _) (
@@ -120,24 +136,9 @@ module _ (P : Effect → Type 0) (J : Type 0) (board : Board) (mem : List ℕ) (
       if-both P (eqb k 64) (l .of-writes _) (
       if-both P (eqb k 65) (l .of-writes _) (
       if-both P (eqb k 66) (l .of-writes _) (
-      l .of-illegal)))))))))))))))))))
+      l .of-illegal))))))))))))))))
 
-  pub compares-have : (n b : ℕ) → P (compares n x b)
-  unfolding compares
-  compares-have n b =
-      if-both P (eqb n 0) (l .of-flag _) (
-      if-both P (eqb n 1) (l .of-flag _) (
-      if-both P (eqb n 2) (l .of-flag _) (
-      if-both P (eqb n 3) (l .of-flag _) (
-      if-both P (eqb n 4) (l .of-flag _) (
-      if-both P (eqb n 5) (l .of-flag _) (
-      if-both P (eqb n 6) (l .of-flag _) (
-      if-both P (eqb n 7) (l .of-flag _) (
-      if-both P (eqb n 8) (l .of-flag _) (
-      if-both P (eqb n 9) (l .of-flag _) (
-      l .of-illegal))))))))))
-
-  pub caches-have : (k : ℕ) → P (caches (length mem) k x)
+  caches-have : (k : ℕ) → P (caches (length mem) k x)
   unfolding caches
   caches-have k =
       if-both P (eqb k 77) (l .of-touch) (
@@ -145,14 +146,17 @@ module _ (P : Effect → Type 0) (J : Type 0) (board : Board) (mem : List ℕ) (
       if-both P (eqb k 79) (l .of-touch) (
       l .of-illegal)))
 
-  pub meaning-has : (k : ℕ) → (2 ≤ k → k ≤ 5 → J) → P (meaning board mem k x)
+  pub meaning-has : (k : ℕ) → (IsBranch k → J) → P (meaning board mem k x)
   unfolding meaning
   meaning-has k j =
-      if-both P (ltb k 16) (control-has k j) (
-      if-both P (ltb k 23) (loads-have k) (
-      if-both P (ltb k 33) (immediates-have k) (
-      if-both P (ltb k 43) (compares-have (k - 33) (x .immediate)) (
-      if-both P (ltb k 48) (stores-have k) (
-      if-both P (ltb k 67) (registers-have k) (
-      if-both P (ltb k 77) (compares-have (k - 67) (x .b)) (
-      caches-have k)))))))
+      if-both P (ltb k firstNopMovhi) (branches-have k j) (
+      if-both P (ltb k firstControl) (nop-movhi-have k) (
+      if-both P (ltb k firstLoad) (control-have k) (
+      if-both P (ltb k firstImmediate) (loads-have k) (
+      if-both P (ltb k firstCompareImmediate) (immediates-have k) (
+      if-both P (ltb k firstStore) (l .of-flag _) (
+      if-both P (ltb k firstArithmetic) (stores-have k) (
+      if-both P (ltb k firstLogic) (arithmetic-have k) (
+      if-both P (ltb k firstCompare) (logic-have k) (
+      if-both P (ltb k firstCache) (l .of-flag _) (
+      caches-have k))))))))))

@@ -1,4 +1,3 @@
--- What every instruction's effect keeps: Sound, where it may write; Rules, what it may write; Accepted, the states that a run accepts.
-pub mod Sound
-pub mod Rules
+-- The states that a run accepts, and, in Inner, what the laws say of an effect.
+pub mod Inner
 pub mod Accepted

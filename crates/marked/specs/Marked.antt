@@ -29,7 +29,7 @@ pub data Example : Type 0 where
   sum-flags : ℕ → ℕ → ℕ → ℕ → Example
   -- a - b: its CY and OV
   difference-flags : ℕ → ℕ → ℕ → ℕ → Example
-  -- the compare of a code, of a against b
+  -- the compare at a place of the set-flag order, of a against b
   compare-is : ℕ → ℕ → ℕ → Bool → Example
   ff1-is : ℕ → ℕ → Example
   -- an access of n bytes in a memory of that length at an address: the cause of the exception that it raises, if it raises one
@@ -69,16 +69,16 @@ right (word-has-immediate w n) = eqb (field (decode w) 0 32) n
 right (sum-is a b v) = eqb (sum a b 0 .value) v
 right (sum-flags a b cy ov) = eqb (sum a b 0 .carry) cy && eqb (sum a b 0 .overflow) ov
 right (difference-flags a b cy ov) = eqb (difference a b .carry) cy && eqb (difference a b .overflow) ov
-right (compare-is k a b t) = same (holds k a b) t
+right (compare-is n a b t) = same (holds n a b) t
 right (ff1-is x n) = eqb (least 32 x) n
 right (access-is n len at a) = eqb (vectorOf (access n len at)) (vectorOf a)
 right (run-leaves len r3 ws place v) = eqb (wordAt (executed (zeros len) (reset r3) ws) 0 place) v
 
 abbrev pub gts : ℕ
-gts = 0xa
+gts = 6
 
 abbrev pub gtu : ℕ
-gtu = 0x2
+gtu = 2
 
 -- l.lwz r4, 0(r3); l.bf 16, with F 0; a word that no row fits
 abbrev pub lwz : ℕ

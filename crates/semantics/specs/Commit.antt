@@ -85,15 +85,15 @@ clearLinks zero s w = s
 clearLinks (suc n) s w = clearLink (clearLinks n s w) n w
 
 -- an effect stores if its width is not 0; the word that it touches
-abbrev pub stores : Effect → Bool
-stores e = ltb 0 (e .store .width)
+abbrev pub writesMemory : Effect → Bool
+writesMemory e = ltb 0 (e .store .width)
 
 abbrev pub touched : Effect → ℕ
 touched e = e .store .address / 4
 
 unfoldable pub statesAfter : List ℕ → ℕ → Effect → List ℕ
 statesAfter s core e =
-    if stores e then clearLinks (coreCount s) (ownState s core e) (touched e * 4) else
+    if writesMemory e then clearLinks (coreCount s) (ownState s core e) (touched e * 4) else
     ownState s core e
 
 unfoldable pub memoryAfter : List ℕ → Effect → List ℕ

@@ -1,12 +1,14 @@
--- What each kind does, a line a kind, in the order of document 01's "Words and kinds". k is the kind, x what the instruction reads.
+-- What each kind does, a line a kind, in the order of document 01's "Words and kinds", by the groups of isa/specs/Groups.antt. k is the kind, x what the
+-- instruction reads.
 use mathlib.Core.Bool.{true, false, not}
-use mathlib.Core.List.{List}
+use mathlib.Core.List.{List, [], _∷_}
 use Prim.Native.Nat.{ℕ, _-_}
 use lib.Bits.{bitAnd, bitOr, bitXor}
 use lib.Dec.{eqb, ltb}
 use lib.ListN.{length}
 use Rattle.bits.specs.Choice.{if_then_else_}
 use Rattle.bits.specs.Word.{bitAt, extend}
+use Rattle.isa.specs.Groups.{firstNopMovhi, firstControl, firstLoad, firstImmediate, firstCompareImmediate, firstStore, firstArithmetic, firstLogic, firstCompare, firstCache}
 use Rattle.arith.specs.Bit.{isSet}
 use Rattle.arith.specs.Status.{F, CY}
 use Rattle.arith.specs.Sums.{sum, difference}
@@ -18,15 +20,25 @@ use Rattle.effect.specs.declared.types.Inputs.{Inputs}
 use Rattle.effect.specs.declared.types.Board.{Board}
 use Rattle.effect.specs.declared.types.Effect.{Effect}
 
--- jumps, branches, exceptions, and what only goes on
-unfoldable pub control : ℕ → Inputs → Effect
-control k x =
+-- jumps and branches by an immediate; below them kind 1, which is illegal, and no kind
+unfoldable pub branches : ℕ → Inputs → Effect
+branches k x =
     if eqb k 2 then jump x 0 0 (relative x) else  -- l.j
     if eqb k 3 then jump x 9 (afterSlot x) (relative x) else  -- l.jal
     if eqb k 4 then branch x (not (isSet F (x .sr))) else  -- l.bnf
     if eqb k 5 then branch x (isSet F (x .sr)) else  -- l.bf
+    illegal x
+
+-- what only goes on, or halts
+unfoldable pub nopMovhi : ℕ → Inputs → Effect
+nopMovhi k x =
     if eqb k 6 then nop x else  -- l.nop
     if eqb k 7 then writes x (highHalf (x .immediate)) else  -- l.movhi
+    illegal x
+
+-- system calls, syncs, the return from an exception, jumps to a register
+unfoldable pub control : ℕ → Inputs → Effect
+control k x =
     if eqb k 8 then syscall x else  -- l.sys
     if eqb k 9 then trap x else  -- l.trap
     if eqb k 10 then nothing x else  -- l.msync
@@ -78,12 +90,17 @@ stores len k x =
     if eqb k 47 then store x len 2 else  -- l.sh
     illegal x
 
--- sums, logic, shifts and extensions of registers
-unfoldable pub registers : ℕ → Inputs → Effect
-registers k x =
+-- sums and differences of registers
+unfoldable pub arithmetic : ℕ → Inputs → Effect
+arithmetic k x =
     if eqb k 48 then sumsOrRaises x (sum (x .a) (x .b) 0) else  -- l.add
     if eqb k 49 then sumsOrRaises x (sum (x .a) (x .b) (bitAt CY (x .sr))) else  -- l.addc
     if eqb k 50 then sumsOrRaises x (difference (x .a) (x .b)) else  -- l.sub
+    illegal x
+
+-- logic, shifts and extensions of registers
+unfoldable pub logic : ℕ → Inputs → Effect
+logic k x =
     if eqb k 51 then writes x (bitAnd (x .a) (x .b)) else  -- l.and
     if eqb k 52 then writes x (bitOr (x .a) (x .b)) else  -- l.or
     if eqb k 53 then writes x (bitXor (x .a) (x .b)) else  -- l.xor
@@ -102,20 +119,9 @@ registers k x =
     if eqb k 66 then writes x (greatest 32 (x .a)) else  -- l.fl1
     illegal x
 
--- The set-flag instructions, by their place n in the set-flag order; b is the second operand, a register's value or the immediate.
-unfoldable pub compares : ℕ → Inputs → ℕ → Effect
-compares n x b =
-    if eqb n 0 then setsFlag x (holds 0x0 (x .a) b) else  -- l.sfeq, l.sfeqi
-    if eqb n 1 then setsFlag x (holds 0x1 (x .a) b) else  -- l.sfne, l.sfnei
-    if eqb n 2 then setsFlag x (holds 0x2 (x .a) b) else  -- l.sfgtu, l.sfgtui
-    if eqb n 3 then setsFlag x (holds 0x3 (x .a) b) else  -- l.sfgeu, l.sfgeui
-    if eqb n 4 then setsFlag x (holds 0x4 (x .a) b) else  -- l.sfltu, l.sfltui
-    if eqb n 5 then setsFlag x (holds 0x5 (x .a) b) else  -- l.sfleu, l.sfleui
-    if eqb n 6 then setsFlag x (holds 0xa (x .a) b) else  -- l.sfgts, l.sfgtsi
-    if eqb n 7 then setsFlag x (holds 0xb (x .a) b) else  -- l.sfges, l.sfgesi
-    if eqb n 8 then setsFlag x (holds 0xc (x .a) b) else  -- l.sflts, l.sfltsi
-    if eqb n 9 then setsFlag x (holds 0xd (x .a) b) else  -- l.sfles, l.sflesi
-    illegal x
+-- the set-flag instructions, by their place n in the set-flag order; b is the second operand, a register's value or the immediate
+abbrev pub compares : ℕ → Inputs → ℕ → Effect
+compares n x b = setsFlag x (holds n (x .a) b)
 
 -- the cache instructions, which only test their byte
 unfoldable pub caches : ℕ → ℕ → Inputs → Effect
@@ -125,14 +131,26 @@ caches len k x =
     if eqb k 79 then touch x len else  -- p.cflush
     illegal x
 
+-- the groups in order, each with the first kind after it
+abbrev pub groups : Board → List ℕ → ℕ → Inputs → List (ℕ × Effect)
+groups board mem k x =
+    (firstNopMovhi, branches k x) ∷
+    (firstControl, nopMovhi k x) ∷
+    (firstLoad, control k x) ∷
+    (firstImmediate, loads mem k x) ∷
+    (firstCompareImmediate, immediates board k x) ∷
+    (firstStore, compares (k - firstCompareImmediate) x (x .immediate)) ∷
+    (firstArithmetic, stores (length mem) k x) ∷
+    (firstLogic, arithmetic k x) ∷
+    (firstCompare, logic k x) ∷
+    (firstCache, compares (k - firstCompare) x (x .b)) ∷
+    []
+
+-- the first group that ends above k; else e
+abbrev pub grouped : ℕ → List (ℕ × Effect) → Effect → Effect
+grouped k [] e = e
+grouped k (g ∷ gs) e = if ltb k (g .0) then g .1 else grouped k gs e
+
 -- The instruction of kind k on memory mem. A number that is no kind is illegal, as kind 1 is.
 unfoldable pub meaning : Board → List ℕ → ℕ → Inputs → Effect
-meaning board mem k x =
-    if ltb k 16 then control k x else
-    if ltb k 23 then loads mem k x else
-    if ltb k 33 then immediates board k x else
-    if ltb k 43 then compares (k - 33) x (x .immediate) else
-    if ltb k 48 then stores (length mem) k x else
-    if ltb k 67 then registers k x else
-    if ltb k 77 then compares (k - 67) x (x .b) else
-    caches (length mem) k x
+meaning board mem k x = grouped k (groups board mem k x) (caches (length mem) k x)

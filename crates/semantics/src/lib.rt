@@ -1,8 +1,9 @@
 // What each kind does, a line a kind, in the order of document 01.
 ghost use mathlib.Core.Path.{_≡_};
-ghost use Prim.Native.Nat.{_<_, _≤_};
-ghost use Rattle.semantics.specs.Meaning.{control as controlOf, loads, immediates, stores, registers, compares, caches};
-ghost use Rattle.effect.specs.Action.{effectBy, goesOn};
+ghost use Prim.Native.Nat.{_-_, _<_};
+ghost use Rattle.isa.specs.Groups.{firstNopMovhi, firstCompareImmediate, firstCompare, IsNopMovhi, IsControl, IsLoad, IsImmediate, IsCompareImmediate, IsStore, IsArithmetic, IsLogic, IsCompare};
+ghost use Rattle.effect.specs.Inner.{effectBy, goesOn};
+ghost use Rattle.semantics.specs.Meaning.{branches, nopMovhi, control as controlOf, loads, immediates, stores, arithmetic as arithmeticOf, logic as logicOf, compares, caches};
 use effect::accesses;
 use effect::completed;
 use effect::jumps;
@@ -13,167 +14,173 @@ use effect::types::Action;
 use effect::types::Board;
 use effect::types::Inputs;
 use effect::types::Written;
+use isa::groups;
 
 // Jumps and branches by an immediate; below them kind 1, which is illegal, and no kind.
 pub fn branch(kind: u8, x: Inputs) -> Action
-    requires { ⌜ kind < 6 ⌝ }
-    ensures { λ r. ⌜ effectBy x r ≡ controlOf kind x ⌝ }
+    requires { ⌜ kind < firstNopMovhi ⌝ }
+    ensures { λ r. ⌜ effectBy x r ≡ branches kind x ⌝ }
 {
     match kind {
-        2 => jumps::jump(x, 0, 0, jumps::relative(x)),
-        3 => jumps::jump(x, 9, jumps::after_slot(x), jumps::relative(x)),
-        4 => jumps::branch(x, !arith::flag(x.sr)),
-        5 => jumps::branch(x, arith::flag(x.sr)),
+        2 => jumps::jump(x, 0, 0, jumps::relative(x)), // l.j
+        3 => jumps::jump(x, 9, jumps::after_slot(x), jumps::relative(x)), // l.jal
+        4 => jumps::branch(x, !arith::flag(x.sr)), // l.bnf
+        5 => jumps::branch(x, arith::flag(x.sr)), // l.bf
         _ => raised::illegal(x),
     }
 }
 
 // The most frequent of all, l.nop, and l.movhi.
-pub fn onward(kind: u8, x: Inputs) -> Action
-    requires { ⌜ (6 ≤ kind) × (kind < 8) ⌝ }
-    ensures { λ r. ⌜ effectBy x r ≡ controlOf kind x ⌝ }
+pub fn nop_movhi(kind: u8, x: Inputs) -> Action
+    requires { ⌜ IsNopMovhi kind ⌝ }
+    ensures { λ r. ⌜ effectBy x r ≡ nopMovhi kind x ⌝ }
 {
     if kind == 6 {
-        return completed::nop(x);
+        return completed::nop(x); // l.nop
     }
-    Action::Advance(completed::write(x, arith::movhi(x.immediate)))
+    Action::Advance(completed::write(x, arith::movhi(x.immediate))) // l.movhi
 }
 
 // Exceptions, syncs, the return from an exception, and jumps to a register.
 pub fn control(kind: u8, x: Inputs) -> Action
-    requires { ⌜ 8 ≤ kind ⌝ }
+    requires { ⌜ IsControl kind ⌝ }
     ensures { λ r. ⌜ effectBy x r ≡ controlOf kind x ⌝ }
 {
     match kind {
-        8 => raised::syscall(x),
-        9 => raised::trap(x),
-        10 => Action::Advance(completed::nothing(x)),
-        11 => Action::Advance(completed::nothing(x)),
-        12 => Action::Advance(completed::nothing(x)),
-        13 => jumps::return_from_exception(x),
-        14 => jumps::register_jump(x, 0, 0),
-        15 => jumps::register_jump(x, 9, jumps::after_slot(x)),
-        _ => raised::illegal(x),
+        8 => raised::syscall(x), // l.sys
+        9 => raised::trap(x), // l.trap
+        10 => Action::Advance(completed::nothing(x)), // l.msync
+        11 => Action::Advance(completed::nothing(x)), // l.psync
+        12 => Action::Advance(completed::nothing(x)), // l.csync
+        13 => jumps::return_from_exception(x), // l.rfe
+        14 => jumps::register_jump(x, 0, 0), // l.jr
+        15 => jumps::register_jump(x, 9, jumps::after_slot(x)), // l.jalr
+        _ => raised::illegal(x), // no kind comes here
     }
 }
 
 // Loads.
 pub fn load(mem: &[u8], kind: u8, x: Inputs) -> Action
+    requires { ⌜ IsLoad kind ⌝ }
     ensures { λ r. ⌜ effectBy x r ≡ loads (now (mem .entry)) kind x ⌝ }
 {
     match kind {
-        16 => accesses::load_linked(x, mem),
-        17 => accesses::load(x, mem, 4, false),
-        18 => accesses::load(x, mem, 4, true),
-        19 => accesses::load(x, mem, 1, false),
-        20 => accesses::load(x, mem, 1, true),
-        21 => accesses::load(x, mem, 2, false),
-        22 => accesses::load(x, mem, 2, true),
-        _ => raised::illegal(x),
+        16 => accesses::load_linked(x, mem), // l.lwa
+        17 => accesses::load(x, mem, 4, false), // l.lwz
+        18 => accesses::load(x, mem, 4, true), // l.lws
+        19 => accesses::load(x, mem, 1, false), // l.lbz
+        20 => accesses::load(x, mem, 1, true), // l.lbs
+        21 => accesses::load(x, mem, 2, false), // l.lhz
+        22 => accesses::load(x, mem, 2, true), // l.lhs
+        _ => raised::illegal(x), // no kind comes here
     }
 }
 
 // Sums, logic and shifts with an immediate.
 pub fn immediate(board: Board, kind: u8, x: Inputs) -> Written
-    requires { ⌜ (23 ≤ kind) × (kind < 33) ⌝ }
+    requires { ⌜ IsImmediate kind ⌝ }
     ensures { λ r. ⌜ goesOn x r ≡ immediates board kind x ⌝ }
 {
     match kind {
-        23 => sums::sum(x, arith::add(x.a, x.immediate, 0)),
-        24 => sums::sum(x, arith::add(x.a, x.immediate, arith::carry(x.sr))),
-        25 => completed::write(x, arith::and(x.a, x.immediate)),
-        26 => completed::write(x, arith::or(x.a, x.immediate)),
-        27 => completed::write(x, arith::xor(x.a, x.immediate)),
-        28 => completed::write(x, special::read(board, x, arith::or(x.a, x.immediate))),
-        29 => completed::write(x, arith::sll(x.a, x.immediate)),
-        30 => completed::write(x, arith::srl(x.a, x.immediate)),
-        31 => completed::write(x, arith::sra(x.a, x.immediate)),
-        32 => completed::write(x, arith::ror(x.a, x.immediate)),
+        23 => sums::sum(x, arith::add(x.a, x.immediate, 0)), // l.addi
+        24 => sums::sum(x, arith::add(x.a, x.immediate, arith::carry(x.sr))), // l.addic
+        25 => completed::write(x, arith::and(x.a, x.immediate)), // l.andi
+        26 => completed::write(x, arith::or(x.a, x.immediate)), // l.ori
+        27 => completed::write(x, arith::xor(x.a, x.immediate)), // l.xori
+        28 => completed::write(x, special::read(board, x, arith::or(x.a, x.immediate))), // l.mfspr
+        29 => completed::write(x, arith::sll(x.a, x.immediate)), // l.slli
+        30 => completed::write(x, arith::srl(x.a, x.immediate)), // l.srli
+        31 => completed::write(x, arith::sra(x.a, x.immediate)), // l.srai
+        32 => completed::write(x, arith::ror(x.a, x.immediate)), // l.rori
         _ => completed::nothing(x), // no kind comes here
     }
 }
 
 // The stores and l.mtspr.
 pub fn store(len: usize, kind: u8, x: Inputs) -> Action
+    requires { ⌜ IsStore kind ⌝ }
     ensures { λ r. ⌜ effectBy x r ≡ stores len kind x ⌝ }
 {
     match kind {
-        43 => Action::Advance(special::write(x, arith::or(x.a, x.immediate), x.b)),
-        44 => accesses::store_conditional(x, len),
-        45 => accesses::store(x, len, 4),
-        46 => accesses::store(x, len, 1),
-        47 => accesses::store(x, len, 2),
-        _ => raised::illegal(x),
+        43 => Action::Advance(special::write(x, arith::or(x.a, x.immediate), x.b)), // l.mtspr
+        44 => accesses::store_conditional(x, len), // l.swa
+        45 => accesses::store(x, len, 4), // l.sw
+        46 => accesses::store(x, len, 1), // l.sb
+        47 => accesses::store(x, len, 2), // l.sh
+        _ => raised::illegal(x), // no kind comes here
     }
 }
 
 // Sums and differences of registers, which may raise range.
-pub fn sum(kind: u8, x: Inputs) -> Action
-    requires { ⌜ kind < 51 ⌝ }
-    ensures { λ r. ⌜ effectBy x r ≡ registers kind x ⌝ }
+pub fn arithmetic(kind: u8, x: Inputs) -> Action
+    requires { ⌜ IsArithmetic kind ⌝ }
+    ensures { λ r. ⌜ effectBy x r ≡ arithmeticOf kind x ⌝ }
 {
     match kind {
-        48 => sums::sum_or_raise(x, arith::add(x.a, x.b, 0)),
-        49 => sums::sum_or_raise(x, arith::add(x.a, x.b, arith::carry(x.sr))),
-        50 => sums::sum_or_raise(x, arith::sub(x.a, x.b)),
-        _ => raised::illegal(x),
+        48 => sums::sum_or_raise(x, arith::add(x.a, x.b, 0)), // l.add
+        49 => sums::sum_or_raise(x, arith::add(x.a, x.b, arith::carry(x.sr))), // l.addc
+        50 => sums::sum_or_raise(x, arith::sub(x.a, x.b)), // l.sub
+        _ => raised::illegal(x), // no kind comes here
     }
 }
 
 // Logic, shifts and extensions of registers.
-pub fn register(kind: u8, x: Inputs) -> Written
-    requires { ⌜ (51 ≤ kind) × (kind < 67) ⌝ }
-    ensures { λ r. ⌜ goesOn x r ≡ registers kind x ⌝ }
+pub fn logic(kind: u8, x: Inputs) -> Written
+    requires { ⌜ IsLogic kind ⌝ }
+    ensures { λ r. ⌜ goesOn x r ≡ logicOf kind x ⌝ }
 {
     match kind {
-        51 => completed::write(x, arith::and(x.a, x.b)),
-        52 => completed::write(x, arith::or(x.a, x.b)),
-        53 => completed::write(x, arith::xor(x.a, x.b)),
-        54 => completed::write(x, arith::sll(x.a, x.b)),
-        55 => completed::write(x, arith::srl(x.a, x.b)),
-        56 => completed::write(x, arith::sra(x.a, x.b)),
-        57 => completed::write(x, arith::ror(x.a, x.b)),
-        58 => completed::write(x, bits::sign_extend(x.a, 16)),
-        59 => completed::write(x, bits::sign_extend(x.a, 8)),
-        60 => completed::write(x, bits::zero_extend(x.a, 16)),
-        61 => completed::write(x, bits::zero_extend(x.a, 8)),
-        62 => completed::write(x, x.a),
-        63 => completed::write(x, x.a),
-        64 => completed::write(x, arith::cmov(arith::flag(x.sr), x.a, x.b)),
-        65 => completed::write(x, arith::ff1(x.a)),
-        66 => completed::write(x, arith::fl1(x.a)),
+        51 => completed::write(x, arith::and(x.a, x.b)), // l.and
+        52 => completed::write(x, arith::or(x.a, x.b)), // l.or
+        53 => completed::write(x, arith::xor(x.a, x.b)), // l.xor
+        54 => completed::write(x, arith::sll(x.a, x.b)), // l.sll
+        55 => completed::write(x, arith::srl(x.a, x.b)), // l.srl
+        56 => completed::write(x, arith::sra(x.a, x.b)), // l.sra
+        57 => completed::write(x, arith::ror(x.a, x.b)), // l.ror
+        58 => completed::write(x, bits::sign_extend(x.a, 16)), // l.exths
+        59 => completed::write(x, bits::sign_extend(x.a, 8)), // l.extbs
+        60 => completed::write(x, bits::zero_extend(x.a, 16)), // l.exthz
+        61 => completed::write(x, bits::zero_extend(x.a, 8)), // l.extbz
+        62 => completed::write(x, x.a), // l.extws
+        63 => completed::write(x, x.a), // l.extwz
+        64 => completed::write(x, arith::cmov(arith::flag(x.sr), x.a, x.b)), // l.cmov
+        65 => completed::write(x, arith::ff1(x.a)), // l.ff1
+        66 => completed::write(x, arith::fl1(x.a)), // l.fl1
         _ => completed::nothing(x), // no kind comes here
     }
 }
 
 // Set flag, by the place in the set-flag order; b is the second operand.
-pub fn compare(n: u8, x: Inputs, b: u32) -> Written
-    requires { ⌜ n < 10 ⌝ }
+fn compare_at(n: u8, x: Inputs, b: u32) -> Written
     ensures { λ r. ⌜ goesOn x r ≡ compares n x b ⌝ }
 {
-    match n {
-        0 => completed::set_flag(x, arith::compare(0x0, x.a, b)),
-        1 => completed::set_flag(x, arith::compare(0x1, x.a, b)),
-        2 => completed::set_flag(x, arith::compare(0x2, x.a, b)),
-        3 => completed::set_flag(x, arith::compare(0x3, x.a, b)),
-        4 => completed::set_flag(x, arith::compare(0x4, x.a, b)),
-        5 => completed::set_flag(x, arith::compare(0x5, x.a, b)),
-        6 => completed::set_flag(x, arith::compare(0xa, x.a, b)),
-        7 => completed::set_flag(x, arith::compare(0xb, x.a, b)),
-        8 => completed::set_flag(x, arith::compare(0xc, x.a, b)),
-        9 => completed::set_flag(x, arith::compare(0xd, x.a, b)),
-        _ => completed::nothing(x), // no place comes here
-    }
+    completed::set_flag(x, arith::compare(n, x.a, b))
 }
 
-// The cache instructions, which only test their byte.
+// Set flag with an immediate, l.sfeqi to l.sflesi: the kinds are in the set-flag order.
+pub fn compare_immediate(kind: u8, x: Inputs) -> Written
+    requires { ⌜ IsCompareImmediate kind ⌝ }
+    ensures { λ r. ⌜ goesOn x r ≡ compares (kind - firstCompareImmediate) x (x .immediate) ⌝ }
+{
+    compare_at(kind - groups::COMPARE_IMMEDIATE, x, x.immediate)
+}
+
+// Set flag of two registers, l.sfeq to l.sfles.
+pub fn compare(kind: u8, x: Inputs) -> Written
+    requires { ⌜ IsCompare kind ⌝ }
+    ensures { λ r. ⌜ goesOn x r ≡ compares (kind - firstCompare) x (x .b) ⌝ }
+{
+    compare_at(kind - groups::COMPARE, x, x.b)
+}
+
+// The cache instructions, which only test their byte; above them no kind.
 pub fn cache(len: usize, kind: u8, x: Inputs) -> Action
     ensures { λ r. ⌜ effectBy x r ≡ caches len kind x ⌝ }
 {
     match kind {
-        77 => accesses::touch(x, len),
-        78 => accesses::touch(x, len),
-        79 => accesses::touch(x, len),
+        77 => accesses::touch(x, len), // p.cinvalidate
+        78 => accesses::touch(x, len), // p.cwriteback
+        79 => accesses::touch(x, len), // p.cflush
         _ => raised::illegal(x),
     }
 }

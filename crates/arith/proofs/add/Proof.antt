@@ -42,12 +42,4 @@ returns c =
     (flagged-same h k o, rw k (g .carry-lt), rw o (g .overflow-lt))
 
 pub add-spec : {M : Type 1} → statement M
-add-spec =
-    tie.close
-    (tie.spec
-    wrapping-add-u32-requires
-    wrapping-add-u32-requires-2
-    one-if-requires
-    one-if-requires-2
-    add-t10
-    returns)
+add-spec = tie.close (tie.spec wrapping-add-u32-requires wrapping-add-u32-requires-2 one-if-requires one-if-requires-2 add-t10 returns)

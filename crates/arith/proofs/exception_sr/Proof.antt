@@ -24,12 +24,4 @@ returns c =
     simp (c .set-bit5 .ensures, c .before .set-bit4 .ensures, c .before .before .set-bit3 .ensures, c .before .before .before .set-bit2 .ensures, c .before .before .before .before .set-bit .ensures)
 
 pub exception-sr-spec : {M : Type 1} → statement M
-exception-sr-spec =
-    tie.close
-    (tie.spec
-    set-bit-requires
-    set-bit-requires-2
-    set-bit-requires-3
-    set-bit-requires-4
-    set-bit-requires-5
-    returns)
+exception-sr-spec = tie.close (tie.spec set-bit-requires set-bit-requires-2 set-bit-requires-3 set-bit-requires-4 set-bit-requires-5 returns)

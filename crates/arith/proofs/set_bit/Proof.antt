@@ -25,5 +25,4 @@ returns : tie.Need-returns
 returns c = let a = c .before .args in replaced (a .i) (a .v) _ (a .x) (c .before .pre .0) (c .before .pre .1) (c .bit-at .ensures .0)
 
 pub set-bit-spec : {M : Type 1} → statement M
-set-bit-spec =
-    tie.close (tie.spec bit-at-requires shl-result sub-result shl-result-2 add-result returns)
+set-bit-spec = tie.close (tie.spec bit-at-requires shl-result sub-result shl-result-2 add-result returns)

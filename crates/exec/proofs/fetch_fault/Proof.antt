@@ -4,11 +4,13 @@ use native.Mathlib.Omega.{arith}
 use denote.Ref.{now}
 use Rattle.isa.specs.declared.vectors.Cause.the-variants.{Bus}
 use Rattle.effect.specs.declared.types.Inputs.{Inputs}
+use Rattle.effect.specs.Inner.{effectBy}
 use Rattle.effect.specs.Effect.{raises, faults}
 use Rattle.semantics.specs.Commit.{inputs, fetchFault}
 use Rattle.exec.proofs.Own.{mid-words, mid-committed}
 use Rattle.exec.proofs.Own.{mid-committed}
 use Rattle.exec.proofs.Commits.{placed-as, owned-as, kept, executed-kept}
+use Rattle.effect.specs.State.{stateWords}
 use borrow.Author.Needs.{needs}
 use Rattle.exec.proofs.fetch_fault.Statement.{statement}
 use Rattle.exec.proofs.fetch_fault.Tie as tie
@@ -34,28 +36,31 @@ part-commit-state-start c = search needs
 part-commit-state-end : tie.Need-part-commit-state-end
 part-commit-state-end c = search needs
 
-faulted-requires : tie.Need-faulted-requires
-faulted-requires c κs = search needs
+fault-effect-requires : tie.Need-fault-effect-requires
+fault-effect-requires c κs = search needs
 
 commit-state-requires : tie.Need-commit-state-requires
-unfolding raises
+unfolding effectBy raises
 commit-state-requires c κs =
     let a = c .before .before .before .before .before .args in
-    (mid-words (now (a .states)) (a .core) (c .before .before .before .before .before .pre .0) (a .core * 42 + 42 - a .core * 42) (omega arith), placed-as (c .faulted .ensures) (omega arith))
+    let n = a .core * stateWords + stateWords - a .core * stateWords in
+    (mid-words (now (a .states)) (a .core) (c .before .before .before .before .before .pre .0) n (omega arith), placed-as (c .fault-effect .ensures) (omega arith))
 
 same-length : tie.Need-same-length
 same-length c = search needs
 
 returns : tie.Need-returns
-unfolding inputs raises
+unfolding effectBy inputs raises
 returns c =
     let a = c .before .before .before .before .before .before .before .before .args in
     let s = now (a .states) in
     let x = c .before .before .before .before .before .state-at .ensures in
-    let n = a .core * 42 + 42 - a .core * 42 in
-    let e = c .before .before .before .faulted .ensures ∙ ap (λ (x : Inputs). faults x Bus (x .flow .pc)) x in
+    let n = a .core * stateWords + stateWords - a .core * stateWords in
+    let e = c .before .before .before .fault-effect .ensures ∙ ap (λ (x : Inputs). faults x Bus (x .flow .pc)) x in
     let o = owned-as e (c .before .before .commit-state .ensures) in
-    λ mem. executed-kept s (a .core) (kept o refl mem) (mid-committed s (a .core) (c .before .before .before .before .before .before .before .before .pre .0) n (omega arith) (fetchFault s (a .core)) (omega arith) (o .left)) refl
+    let inside = c .before .before .before .before .before .before .before .before .pre .0 in
+    let own = mid-committed s (a .core) inside n (omega arith) (fetchFault s (a .core)) (omega arith) (o .left) in
+    λ mem. executed-kept s (a .core) (kept o refl mem) own refl
 
 pub fetch-fault-spec : {M : Type 1} → statement M
 fetch-fault-spec =
@@ -68,7 +73,7 @@ fetch-fault-spec =
     sub-commit-state
     part-commit-state-start
     part-commit-state-end
-    faulted-requires
+    fault-effect-requires
     commit-state-requires
     same-length
     returns)

@@ -1,10 +1,6 @@
 use mathlib.Core.Path.{ap, _∙_}
 use denote.Ref.{now}
-use Rattle.isa.proofs.entry.unpack.Reads as unpack-reads
-use Rattle.exec.specs.Report.{ownInputs}
-use Rattle.exec.proofs.inputs_at.Reads as reads
-use Rattle.exec.proofs.inputs_at.Lts as lts
-use Rattle.exec.proofs.inputs_of.Reads as inputs-of-reads
+use Rattle.exec.specs.Inner.{ownInputs, entryInputs}
 use borrow.Author.Needs.{needs}
 use Rattle.exec.proofs.inputs_at.Statement.{statement}
 use Rattle.exec.proofs.inputs_at.Tie as tie
@@ -16,6 +12,7 @@ inputs-of-requires : tie.Need-inputs-of-requires
 inputs-of-requires c κs = search needs
 
 returns : tie.Need-returns
+unfolding entryInputs
 returns c =
     let a = c .before .before .before .args in
     c .inputs-of .ensures ∙ ap (ownInputs (now (a .own)) (a .core)) (c .before .unpack .ensures .0)

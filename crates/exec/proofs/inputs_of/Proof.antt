@@ -1,6 +1,4 @@
 use mathlib.Core.Path.{refl}
-use Rattle.exec.proofs.inputs_of.Reads as reads
-use Rattle.exec.proofs.inputs_of.Lts as lts
 use borrow.Author.Needs.{needs}
 use Rattle.exec.proofs.inputs_of.Statement.{statement}
 use Rattle.exec.proofs.inputs_of.Tie as tie

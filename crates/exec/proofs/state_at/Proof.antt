@@ -4,6 +4,7 @@ use native.Mathlib.Omega.{arith}
 use denote.Ref.{now}
 use Rattle.semantics.specs.Commit.{inputs}
 use Rattle.exec.proofs.Own.{mid-inputs}
+use Rattle.effect.specs.State.{stateWords}
 use borrow.Author.Needs.{needs}
 use Rattle.exec.proofs.state_at.Statement.{statement}
 use Rattle.exec.proofs.state_at.Tie as tie
@@ -37,21 +38,10 @@ returns c =
     let a = c .before .before .before .before .args in
     let s = now (a .states) in
     let f = c .before .no-fields in
-    let n = a .core * 42 + 42 - a .core * 42 in
+    let n = a .core * stateWords + stateWords - a .core * stateWords in
     c .inputs-of .ensures
     ∙ mid-inputs s (a .core) (c .before .before .before .before .pre .0) n (omega arith) (f .result) (f .ensures .1)
     ∙ ap (inputs s (a .core)) (f .ensures .0)
 
 pub state-at-spec : {M : Type 1} → statement M
-state-at-spec =
-    tie.close
-    (tie.spec
-    mul-base
-    add-end
-    mul-inputs-of
-    sub-inputs-of
-    part-inputs-of-start
-    part-inputs-of-end
-    no-fields-requires
-    inputs-of-requires
-    returns)
+state-at-spec = tie.close (tie.spec mul-base add-end mul-inputs-of sub-inputs-of part-inputs-of-start part-inputs-of-end no-fields-requires inputs-of-requires returns)

@@ -1,7 +1,7 @@
-use native.Mathlib.Omega.{arith}
-use borrow.Author.Tests.{ne-eqb}
-use Rattle.semantics.specs.Meaning.{control}
+use mathlib.Core.Path.{_∙_}
+use Rattle.semantics.specs.Meaning.{branches}
 use borrow.Author.Needs.{needs}
+use Rattle.semantics.proofs.Groups.{no-branch}
 use Rattle.semantics.proofs.branch.Statement.{statement}
 use Rattle.semantics.proofs.branch.Tie as tie
 
@@ -36,43 +36,23 @@ illegal-requires : tie.Need-illegal-requires
 illegal-requires c κs = search needs
 
 returns : tie.Need-returns
-unfolding control
+unfolding branches
 returns c = simp (c .jump .ensures, c .before .relative .ensures, c .before .before .match .keys1)
 
 returns-2 : tie.Need-returns-2
-unfolding control
+unfolding branches
 returns-2 c = simp (c .jump2 .ensures, c .before .relative2 .ensures, c .before .before .after-slot .ensures, c .before .before .before .match .keys2)
 
 returns-3 : tie.Need-returns-3
-unfolding control
+unfolding branches
 returns-3 c = simp (c .branch .ensures, c .before .flag .ensures, c .before .before .match .keys3)
 
 returns-4 : tie.Need-returns-4
-unfolding control
+unfolding branches
 returns-4 c = simp (c .branch2 .ensures, c .before .flag2 .ensures, c .before .before .match .keys4)
 
 returns-5 : tie.Need-returns-5
-unfolding control
-returns-5 c =
-    let k = c .before .before .args .kind in
-    let p = c .before .before .pre in
-    simp (
-      c .illegal .ensures,
-      ne-eqb _ _ (c .before .match .rest .1),
-      ne-eqb _ _ (c .before .match .rest .0 .1),
-      ne-eqb _ _ (c .before .match .rest .0 .0 .1),
-      ne-eqb _ _ (c .before .match .rest .0 .0 .0 .1),
-      ne-eqb k 6 (omega (arith, p)),
-      ne-eqb k 7 (omega (arith, p)),
-      ne-eqb k 8 (omega (arith, p)),
-      ne-eqb k 9 (omega (arith, p)),
-      ne-eqb k 10 (omega (arith, p)),
-      ne-eqb k 11 (omega (arith, p)),
-      ne-eqb k 12 (omega (arith, p)),
-      ne-eqb k 13 (omega (arith, p)),
-      ne-eqb k 14 (omega (arith, p)),
-      ne-eqb k 15 (omega (arith, p)),
-    )
+returns-5 c = c .illegal .ensures ∙ no-branch _ _ (c .before .before .pre) (c .before .match .rest)
 
 pub branch-spec : {M : Type 1} → statement M
 branch-spec =

@@ -1,8 +1,8 @@
-use native.Mathlib.Omega.{arith}
-use borrow.Author.Tests.{ne-eqb}
-use Rattle.effect.specs.Action.{effectBy}
+use Rattle.effect.specs.Inner.{effectBy}
+use Rattle.isa.specs.Groups.{firstControl}
 use Rattle.semantics.specs.Meaning.{control}
 use borrow.Author.Needs.{needs}
+use Rattle.semantics.proofs.Groups.{all-keys}
 use Rattle.semantics.proofs.control.Statement.{statement}
 use Rattle.semantics.proofs.control.Tie as tie
 
@@ -69,27 +69,7 @@ unfolding control
 returns-8 c = simp (c .register-jump2 .ensures, c .before .after-slot .ensures, c .before .before .match .keys8)
 
 returns-9 : tie.Need-returns-9
-unfolding control
-returns-9 c =
-    let k = c .before .before .args .kind in
-    let p = c .before .before .pre in
-    simp (
-      c .illegal .ensures,
-      ne-eqb _ _ (c .before .match .rest .1),
-      ne-eqb _ _ (c .before .match .rest .0 .1),
-      ne-eqb _ _ (c .before .match .rest .0 .0 .1),
-      ne-eqb _ _ (c .before .match .rest .0 .0 .0 .1),
-      ne-eqb _ _ (c .before .match .rest .0 .0 .0 .0 .1),
-      ne-eqb _ _ (c .before .match .rest .0 .0 .0 .0 .0 .1),
-      ne-eqb _ _ (c .before .match .rest .0 .0 .0 .0 .0 .0 .1),
-      ne-eqb _ _ (c .before .match .rest .0 .0 .0 .0 .0 .0 .0 .1),
-      ne-eqb k 2 (omega (arith, p)),
-      ne-eqb k 3 (omega (arith, p)),
-      ne-eqb k 4 (omega (arith, p)),
-      ne-eqb k 5 (omega (arith, p)),
-      ne-eqb k 6 (omega (arith, p)),
-      ne-eqb k 7 (omega (arith, p)),
-    )
+returns-9 c = let p = c .before .before .pre in absurd (all-keys firstControl 8 _ (p .0) (p .1) (c .before .match .rest))
 
 pub control-spec : {M : Type 1} → statement M
 control-spec =

@@ -1,9 +1,8 @@
-use mathlib.Core.Bool.{false}
-use mathlib.Core.List.{[], _∷_}
-use Rattle.bits.proofs.Tests.{within-but}
 use Rattle.effect.specs.Effect.{sums}
+use Rattle.isa.specs.Groups.{firstImmediate}
 use Rattle.semantics.specs.Meaning.{immediates}
 use borrow.Author.Needs.{needs}
+use Rattle.semantics.proofs.Groups.{all-keys}
 use Rattle.semantics.proofs.immediate.Statement.{statement}
 use Rattle.semantics.proofs.immediate.Tie as tie
 
@@ -117,9 +116,43 @@ unfolding immediates
 returns-10 c = simp (c .write8 .ensures, c .before .ror .ensures, c .before .before .match .keys10)
 
 returns-11 : tie.Need-returns-11
-returns-11 c =
-    let p = c .before .before .pre in
-    absurd (within-but (λ _. false) (32 ∷ 31 ∷ 30 ∷ 29 ∷ 28 ∷ 27 ∷ 26 ∷ 25 ∷ 24 ∷ 23 ∷ []) 23 10 tt _ (p .0) (p .1) (c .before .match .rest))
+returns-11 c = let p = c .before .before .pre in absurd (all-keys firstImmediate 10 _ (p .0) (p .1) (c .before .match .rest))
 
 pub immediate-spec : {M : Type 1} → statement M
-immediate-spec = tie.close (tie.spec add-requires sum-requires carry-requires add-requires-2 sum-requires-2 and-requires write-requires or-requires write-requires-2 xor-requires write-requires-3 or-requires-2 read-requires write-requires-4 sll-requires write-requires-5 srl-requires write-requires-6 sra-requires write-requires-7 ror-requires write-requires-8 nothing-requires returns returns-2 returns-3 returns-4 returns-5 returns-6 returns-7 returns-8 returns-9 returns-10 returns-11)
+immediate-spec =
+    tie.close
+    (tie.spec
+    add-requires
+    sum-requires
+    carry-requires
+    add-requires-2
+    sum-requires-2
+    and-requires
+    write-requires
+    or-requires
+    write-requires-2
+    xor-requires
+    write-requires-3
+    or-requires-2
+    read-requires
+    write-requires-4
+    sll-requires
+    write-requires-5
+    srl-requires
+    write-requires-6
+    sra-requires
+    write-requires-7
+    ror-requires
+    write-requires-8
+    nothing-requires
+    returns
+    returns-2
+    returns-3
+    returns-4
+    returns-5
+    returns-6
+    returns-7
+    returns-8
+    returns-9
+    returns-10
+    returns-11)

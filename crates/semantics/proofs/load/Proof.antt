@@ -1,7 +1,8 @@
 use borrow.Author.Needs.{needs}
-use borrow.Author.Tests.{ne-eqb}
 use Rattle.memory.specs.Memory.{byte-wide, half-wide, word-wide}
+use Rattle.isa.specs.Groups.{firstLoad}
 use Rattle.semantics.specs.Meaning.{loads}
+use Rattle.semantics.proofs.Groups.{all-keys}
 use Rattle.semantics.proofs.load.Statement.{statement}
 use Rattle.semantics.proofs.load.Tie as tie
 
@@ -58,8 +59,25 @@ unfolding loads
 returns-7 c = simp (c .load6 .ensures, c .before .match .keys7)
 
 returns-8 : tie.Need-returns-8
-unfolding loads
-returns-8 c = simp (c .illegal .ensures, ne-eqb _ _ (c .before .match .rest .1), ne-eqb _ _ (c .before .match .rest .0 .1), ne-eqb _ _ (c .before .match .rest .0 .0 .1), ne-eqb _ _ (c .before .match .rest .0 .0 .0 .1), ne-eqb _ _ (c .before .match .rest .0 .0 .0 .0 .1), ne-eqb _ _ (c .before .match .rest .0 .0 .0 .0 .0 .1), ne-eqb _ _ (c .before .match .rest .0 .0 .0 .0 .0 .0 .1))
+returns-8 c = let p = c .before .before .before .pre in absurd (all-keys firstLoad 7 _ (p .0) (p .1) (c .before .match .rest))
 
 pub load-spec : {M : Type 1} → statement M
-load-spec = tie.close (tie.spec load-linked-requires load-requires load-requires-2 load-requires-3 load-requires-4 load-requires-5 load-requires-6 illegal-requires returns returns-2 returns-3 returns-4 returns-5 returns-6 returns-7 returns-8)
+load-spec =
+    tie.close
+    (tie.spec
+    load-linked-requires
+    load-requires
+    load-requires-2
+    load-requires-3
+    load-requires-4
+    load-requires-5
+    load-requires-6
+    illegal-requires
+    returns
+    returns-2
+    returns-3
+    returns-4
+    returns-5
+    returns-6
+    returns-7
+    returns-8)

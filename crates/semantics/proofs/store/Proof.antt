@@ -1,8 +1,9 @@
-use borrow.Author.Tests.{ne-eqb}
 use Rattle.memory.specs.Memory.{byte-wide, half-wide, word-wide}
-use Rattle.effect.specs.Action.{effectBy}
+use Rattle.effect.specs.Inner.{effectBy}
+use Rattle.isa.specs.Groups.{firstStore}
 use Rattle.semantics.specs.Meaning.{stores}
 use borrow.Author.Needs.{needs}
+use Rattle.semantics.proofs.Groups.{all-keys}
 use Rattle.semantics.proofs.store.Statement.{statement}
 use Rattle.semantics.proofs.store.Tie as tie
 
@@ -48,8 +49,22 @@ unfolding stores
 returns-5 c = simp (c .store3 .ensures, c .before .match .keys5)
 
 returns-6 : tie.Need-returns-6
-unfolding stores
-returns-6 c = simp (c .illegal .ensures, ne-eqb _ _ (c .before .match .rest .1), ne-eqb _ _ (c .before .match .rest .0 .1), ne-eqb _ _ (c .before .match .rest .0 .0 .1), ne-eqb _ _ (c .before .match .rest .0 .0 .0 .1), ne-eqb _ _ (c .before .match .rest .0 .0 .0 .0 .1))
+returns-6 c = let p = c .before .before .pre in absurd (all-keys firstStore 5 _ (p .0) (p .1) (c .before .match .rest))
 
 pub store-spec : {M : Type 1} → statement M
-store-spec = tie.close (tie.spec or-requires write-requires store-conditional-requires store-requires store-requires-2 store-requires-3 illegal-requires returns returns-2 returns-3 returns-4 returns-5 returns-6)
+store-spec =
+    tie.close
+    (tie.spec
+    or-requires
+    write-requires
+    store-conditional-requires
+    store-requires
+    store-requires-2
+    store-requires-3
+    illegal-requires
+    returns
+    returns-2
+    returns-3
+    returns-4
+    returns-5
+    returns-6)

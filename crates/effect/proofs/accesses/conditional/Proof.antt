@@ -1,5 +1,5 @@
 use mathlib.Core.Path.{sym, _∙_}
-use Rattle.effect.specs.Action.{effectBy}
+use Rattle.effect.specs.Inner.{effectBy}
 use borrow.Author.Needs.{needs}
 use Rattle.effect.proofs.accesses.conditional.Statement.{statement}
 use Rattle.effect.proofs.accesses.conditional.Tie as tie

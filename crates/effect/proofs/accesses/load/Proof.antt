@@ -2,7 +2,7 @@ use mathlib.Core.Path.{sym, _∙_}
 use lib.ListN.{length}
 use Rattle.memory.proofs.Laws.{granted-tag, granted-inside}
 use Rattle.effect.specs.Effect.{load}
-use Rattle.effect.specs.Action.{effectBy}
+use Rattle.effect.specs.Inner.{effectBy}
 use Rattle.effect.proofs.Access.{answered, faulted}
 use borrow.Author.Needs.{needs}
 use Rattle.effect.proofs.accesses.load.Statement.{statement}
@@ -32,27 +32,13 @@ fault-requires c κs = search needs
 
 returns : tie.Need-returns
 unfolding load effectBy
-returns c = answered (c .before .before .before .before .before .before .before .args .x) (c .before .before .before .before .before .before .before .args .width) (length (c .before .before .before .before .before .before .before .args .mem .now)) (c .before .before .before .before .before .address .result) (c .before .before .before .before .test .result) (c .before .before .before .before .before .address .ensures) (c .before .before .before .before .test .ensures) (c .before .before .before .match .keys1) _ _ (simp (c .write .ensures, c .before .load-extended .ensures, c .before .before .before .before .before .address .ensures))
+returns c = let t = c .before .before .before .before in let a = t .before .before .before .args in
+    answered (a .x) (a .width) (length (a .mem .now)) _ (t .test .result) (t .before .address .ensures) (t .test .ensures) (c .before .before .before .match .keys1) _ _ (simp (c .write .ensures, c .before .load-extended .ensures, t .before .address .ensures))
 
 returns-2 : tie.Need-returns-2
 unfolding load
-returns-2 c =
-    let k = c .before .before in
-    let t = k .before .before .test in
-    let at = k .before .before .before .address in
-    let a = k .before .before .before .before .before .args in
-    faulted (a .x) (a .width) (length (a .mem .now)) (at .result) (t .result) (at .ensures) (t .ensures) (k .cause .given .1) _ _ (c .fault .ensures _)
+returns-2 c = let k = c .before .before in let t = k .before .before in let a = t .before .before .before .args in
+    faulted (a .x) (a .width) (length (a .mem .now)) _ (t .test .result) (t .before .address .ensures) (t .test .ensures) (k .cause .given .1) _ _ (c .fault .ensures _)
 
 pub load-spec : {M : Type 1} → statement M
-load-spec =
-    tie.close
-    (tie.spec
-    address-requires
-    test-requires
-    enum-told
-    load-extended-requires
-    write-requires
-    enum-known-cause
-    fault-requires
-    returns
-    returns-2)
+load-spec = tie.close (tie.spec address-requires test-requires enum-told load-extended-requires write-requires enum-known-cause fault-requires returns returns-2)

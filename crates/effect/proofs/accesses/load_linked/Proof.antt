@@ -4,7 +4,7 @@ use Rattle.memory.proofs.Laws.{granted-tag, granted-inside}
 use Rattle.memory.specs.Memory.{word-wide}
 use Rattle.effect.specs.Effect.{loadLinked}
 use Rattle.effect.proofs.Access.{answered, faulted}
-use Rattle.effect.specs.Action.{effectBy}
+use Rattle.effect.specs.Inner.{effectBy}
 use borrow.Author.Needs.{needs}
 use Rattle.effect.proofs.accesses.load_linked.Statement.{statement}
 use Rattle.effect.proofs.accesses.load_linked.Tie as tie
@@ -30,26 +30,13 @@ fault-requires c κs = search needs
 
 returns : tie.Need-returns
 unfolding loadLinked effectBy
-returns c = answered (c .before .before .before .before .before .before .args .x) 4 (length (c .before .before .before .before .before .before .args .mem .now)) (c .before .before .before .before .address .result) (c .before .before .before .test .result) (c .before .before .before .before .address .ensures) (c .before .before .before .test .ensures) (c .before .before .match .keys1) _ _ (simp (c .load .ensures .0, c .before .before .before .before .address .ensures))
+returns c = let t = c .before .before .before in let a = t .before .before .before .args in
+    answered (a .x) 4 (length (a .mem .now)) _ (t .test .result) (t .before .address .ensures) (t .test .ensures) (c .before .before .match .keys1) _ _ (simp (c .load .ensures .0, t .before .address .ensures))
 
 returns-2 : tie.Need-returns-2
 unfolding loadLinked
-returns-2 c =
-    let k = c .before .before in
-    let t = k .before .before .test in
-    let at = k .before .before .before .address in
-    let a = k .before .before .before .before .before .args in
-    faulted (a .x) 4 (length (a .mem .now)) (at .result) (t .result) (at .ensures) (t .ensures) (k .cause .given .1) _ _ (c .fault .ensures _)
+returns-2 c = let k = c .before .before in let t = k .before .before in let a = t .before .before .before .args in
+    faulted (a .x) 4 (length (a .mem .now)) _ (t .test .result) (t .before .address .ensures) (t .test .ensures) (k .cause .given .1) _ _ (c .fault .ensures _)
 
 pub load-linked-spec : {M : Type 1} → statement M
-load-linked-spec =
-    tie.close
-    (tie.spec
-    address-requires
-    test-requires
-    enum-told
-    load-requires
-    enum-known-cause
-    fault-requires
-    returns
-    returns-2)
+load-linked-spec = tie.close (tie.spec address-requires test-requires enum-told load-requires enum-known-cause fault-requires returns returns-2)

@@ -1,6 +1,6 @@
 use Rattle.effect.proofs.Access.{answered, faulted}
 use Rattle.effect.specs.Effect.{store}
-use Rattle.effect.specs.Action.{effectBy}
+use Rattle.effect.specs.Inner.{effectBy}
 use borrow.Author.Needs.{needs}
 use Rattle.effect.proofs.accesses.store.Statement.{statement}
 use Rattle.effect.proofs.accesses.store.Tie as tie
@@ -25,26 +25,13 @@ fault-requires c κs = search needs
 
 returns : tie.Need-returns
 unfolding store effectBy
-returns c = answered (c .before .before .before .before .before .args .x) (c .before .before .before .before .before .args .width) (c .before .before .before .before .before .args .len) (c .before .before .before .before .address .result) (c .before .before .before .test .result) (c .before .before .before .before .address .ensures) (c .before .before .before .test .ensures) (c .before .before .match .keys1) _ _ (simp (c .storing .ensures))
+returns c = let t = c .before .before .before in let a = t .before .before .args in
+    answered (a .x) (a .width) (a .len) _ (t .test .result) (t .before .address .ensures) (t .test .ensures) (c .before .before .match .keys1) _ _ (simp (c .storing .ensures))
 
 returns-2 : tie.Need-returns-2
 unfolding store
-returns-2 c =
-    let k = c .before .before in
-    let t = k .before .before .test in
-    let at = k .before .before .before .address in
-    let a = k .before .before .before .before .args in
-    faulted (a .x) (a .width) (a .len) (at .result) (t .result) (at .ensures) (t .ensures) (k .cause .given .1) _ _ (c .fault .ensures _)
+returns-2 c = let k = c .before .before in let t = k .before .before in let a = t .before .before .args in
+    faulted (a .x) (a .width) (a .len) _ (t .test .result) (t .before .address .ensures) (t .test .ensures) (k .cause .given .1) _ _ (c .fault .ensures _)
 
 pub store-spec : {M : Type 1} → statement M
-store-spec =
-    tie.close
-    (tie.spec
-    address-requires
-    test-requires
-    enum-told
-    storing-requires
-    enum-known-cause
-    fault-requires
-    returns
-    returns-2)
+store-spec = tie.close (tie.spec address-requires test-requires enum-told storing-requires enum-known-cause fault-requires returns returns-2)

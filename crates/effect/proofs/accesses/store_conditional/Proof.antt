@@ -25,26 +25,13 @@ fault-requires c κs = search needs
 
 returns : tie.Need-returns
 unfolding storeConditional
-returns c = answered (c .before .before .before .before .before .args .x) 4 (c .before .before .before .before .before .args .len) (c .before .before .before .before .address .result) (c .before .before .before .test .result) (c .before .before .before .before .address .ensures) (c .before .before .before .test .ensures) (c .before .before .match .keys1) _ _ (c .conditional .ensures)
+returns c = let t = c .before .before .before in let a = t .before .before .args in
+    answered (a .x) 4 (a .len) _ (t .test .result) (t .before .address .ensures) (t .test .ensures) (c .before .before .match .keys1) _ _ (c .conditional .ensures)
 
 returns-2 : tie.Need-returns-2
 unfolding storeConditional
-returns-2 c =
-    let k = c .before .before in
-    let t = k .before .before .test in
-    let at = k .before .before .before .address in
-    let a = k .before .before .before .before .args in
-    faulted (a .x) 4 (a .len) (at .result) (t .result) (at .ensures) (t .ensures) (k .cause .given .1) _ _ (c .fault .ensures _)
+returns-2 c = let k = c .before .before in let t = k .before .before in let a = t .before .before .args in
+    faulted (a .x) 4 (a .len) _ (t .test .result) (t .before .address .ensures) (t .test .ensures) (k .cause .given .1) _ _ (c .fault .ensures _)
 
 pub store-conditional-spec : {M : Type 1} → statement M
-store-conditional-spec =
-    tie.close
-    (tie.spec
-    address-requires
-    test-requires
-    enum-told
-    conditional-requires
-    enum-known-cause
-    fault-requires
-    returns
-    returns-2)
+store-conditional-spec = tie.close (tie.spec address-requires test-requires enum-told conditional-requires enum-known-cause fault-requires returns returns-2)

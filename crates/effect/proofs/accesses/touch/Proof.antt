@@ -1,7 +1,7 @@
 use Rattle.memory.specs.Memory.{byte-wide}
 use Rattle.effect.proofs.Access.{answered, faulted}
 use Rattle.effect.specs.Effect.{touch}
-use Rattle.effect.specs.Action.{effectBy}
+use Rattle.effect.specs.Inner.{effectBy}
 use borrow.Author.Needs.{needs}
 use Rattle.effect.proofs.accesses.touch.Statement.{statement}
 use Rattle.effect.proofs.accesses.touch.Tie as tie
@@ -26,26 +26,13 @@ fault-requires c κs = search needs
 
 returns : tie.Need-returns
 unfolding touch effectBy
-returns c = answered (c .before .before .before .before .before .args .x) 1 (c .before .before .before .before .before .args .len) (c .before .before .before .before .address .result) (c .before .before .before .test .result) (c .before .before .before .before .address .ensures) (c .before .before .before .test .ensures) (c .before .before .match .keys1) _ _ (simp (c .nothing .ensures))
+returns c = let t = c .before .before .before in let a = t .before .before .args in
+    answered (a .x) 1 (a .len) _ (t .test .result) (t .before .address .ensures) (t .test .ensures) (c .before .before .match .keys1) _ _ (simp (c .nothing .ensures))
 
 returns-2 : tie.Need-returns-2
 unfolding touch
-returns-2 c =
-    let k = c .before .before in
-    let t = k .before .before .test in
-    let at = k .before .before .before .address in
-    let a = k .before .before .before .before .args in
-    faulted (a .x) 1 (a .len) (at .result) (t .result) (at .ensures) (t .ensures) (k .cause .given .1) _ _ (c .fault .ensures _)
+returns-2 c = let k = c .before .before in let t = k .before .before in let a = t .before .before .args in
+    faulted (a .x) 1 (a .len) _ (t .test .result) (t .before .address .ensures) (t .test .ensures) (k .cause .given .1) _ _ (c .fault .ensures _)
 
 pub touch-spec : {M : Type 1} → statement M
-touch-spec =
-    tie.close
-    (tie.spec
-    address-requires
-    test-requires
-    enum-told
-    nothing-requires
-    enum-known-cause
-    fault-requires
-    returns
-    returns-2)
+touch-spec = tie.close (tie.spec address-requires test-requires enum-told nothing-requires enum-known-cause fault-requires returns returns-2)

@@ -1,6 +1,6 @@
 use borrow.Author.Tests.{eq-eqb, ne-eqb}
 use Rattle.effect.specs.Effect.{nop}
-use Rattle.effect.specs.Action.{effectBy}
+use Rattle.effect.specs.Inner.{effectBy}
 use borrow.Author.Needs.{needs}
 use Rattle.effect.proofs.completed.nop.Statement.{statement}
 use Rattle.effect.proofs.completed.nop.Tie as tie
@@ -17,9 +17,4 @@ unfolding nop effectBy
 returns-2 c = simp (c .nothing .ensures, ne-eqb _ _ (c .before .if1 .left))
 
 pub nop-spec : {M : Type 1} → statement M
-nop-spec =
-    tie.close
-    (tie.spec
-    returns
-    nothing-requires
-    returns-2)
+nop-spec = tie.close (tie.spec returns nothing-requires returns-2)

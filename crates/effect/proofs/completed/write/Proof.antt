@@ -1,5 +1,5 @@
 use mathlib.Core.Path.{ap}
-use Rattle.effect.specs.Action.{goesOn}
+use Rattle.effect.specs.Inner.{goesOn}
 use borrow.Author.Needs.{needs}
 use Rattle.effect.proofs.completed.write.Statement.{statement}
 use Rattle.effect.proofs.completed.write.Tie as tie

@@ -24,12 +24,4 @@ unfolding branch
 returns-2 c = simp (c .jump2 .ensures, c .before .after-slot .ensures, c .before .before .if1 .left)
 
 pub branch-spec : {M : Type 1} → statement M
-branch-spec =
-    tie.close
-    (tie.spec
-    relative-requires
-    jump-requires
-    returns
-    after-slot-requires
-    jump-requires-2
-    returns-2)
+branch-spec = tie.close (tie.spec relative-requires jump-requires returns after-slot-requires jump-requires-2 returns-2)

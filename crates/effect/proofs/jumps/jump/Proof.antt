@@ -14,13 +14,12 @@ returns : tie.Need-returns
 unfolding jump
 returns c = simp (c .illegal .ensures, sym (c .before .before .in-slot .ensures) ∙ c .before .if1 .taken)
 
-jumping-requires : tie.Need-jumping-requires
-jumping-requires c κs = search needs
+jump-to-requires : tie.Need-jump-to-requires
+jump-to-requires c κs = search needs
 
 returns-2 : tie.Need-returns-2
 unfolding jump
-returns-2 c = simp (c .jumping .ensures, sym (c .before .before .in-slot .ensures) ∙ c .before .if1 .left)
+returns-2 c = simp (c .jump-to .ensures, sym (c .before .before .in-slot .ensures) ∙ c .before .if1 .left)
 
 pub jump-spec : {M : Type 1} → statement M
-jump-spec =
-    tie.close (tie.spec in-slot-requires illegal-requires returns jumping-requires returns-2)
+jump-spec = tie.close (tie.spec in-slot-requires illegal-requires returns jump-to-requires returns-2)

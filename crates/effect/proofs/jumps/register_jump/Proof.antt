@@ -22,21 +22,12 @@ returns-2 : tie.Need-returns-2
 unfolding registerJump
 returns-2 c = simp (c .fault .ensures, sym (c .before .before .before .before .in-slot .ensures) ∙ c .before .before .before .if1 .left, lt-ltb _ _ (c .before .if2 .taken))
 
-jumping-requires : tie.Need-jumping-requires
-jumping-requires c κs = search needs
+jump-to-requires : tie.Need-jump-to-requires
+jump-to-requires c κs = search needs
 
 returns-3 : tie.Need-returns-3
 unfolding registerJump
-returns-3 c = simp (c .jumping .ensures, sym (c .before .before .before .before .in-slot .ensures) ∙ c .before .before .before .if1 .left, le-ltb _ _ (c .before .if2 .left))
+returns-3 c = simp (c .jump-to .ensures, sym (c .before .before .before .before .in-slot .ensures) ∙ c .before .before .before .if1 .left, le-ltb _ _ (c .before .if2 .left))
 
 pub register-jump-spec : {M : Type 1} → statement M
-register-jump-spec =
-    tie.close
-    (tie.spec
-    in-slot-requires
-    illegal-requires
-    returns
-    fault-requires
-    returns-2
-    jumping-requires
-    returns-3)
+register-jump-spec = tie.close (tie.spec in-slot-requires illegal-requires returns fault-requires returns-2 jump-to-requires returns-3)

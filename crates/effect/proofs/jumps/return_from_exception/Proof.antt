@@ -1,6 +1,6 @@
 use mathlib.Core.Path.{sym, _∙_}
 use Rattle.effect.specs.Effect.{returns as returnsOf}
-use Rattle.effect.specs.Action.{effectBy}
+use Rattle.effect.specs.Inner.{effectBy}
 use borrow.Author.Needs.{needs}
 use Rattle.effect.proofs.jumps.return_from_exception.Statement.{statement}
 use Rattle.effect.proofs.jumps.return_from_exception.Tie as tie
@@ -20,10 +20,4 @@ unfolding returnsOf effectBy
 returns-2 c = simp (sym (c .before .in-slot .ensures) ∙ c .if1 .left)
 
 pub return-from-exception-spec : {M : Type 1} → statement M
-return-from-exception-spec =
-    tie.close
-    (tie.spec
-    in-slot-requires
-    illegal-requires
-    returns
-    returns-2)
+return-from-exception-spec = tie.close (tie.spec in-slot-requires illegal-requires returns returns-2)

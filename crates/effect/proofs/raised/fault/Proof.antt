@@ -1,5 +1,5 @@
 use mathlib.Core.Path.{refl}
-use Rattle.effect.specs.Action.{effectBy}
+use Rattle.effect.specs.Inner.{effectBy}
 use Rattle.effect.proofs.raised.fault.Statement.{statement}
 use Rattle.effect.proofs.raised.fault.Tie as tie
 

@@ -22,11 +22,4 @@ unfolding syscall
 returns-2 c = simp (c .fault .ensures, sym (c .before .before .in-slot .ensures) ∙ c .before .if1 .left)
 
 pub syscall-spec : {M : Type 1} → statement M
-syscall-spec =
-    tie.close
-    (tie.spec
-    in-slot-requires
-    illegal-requires
-    returns
-    fault-requires
-    returns-2)
+syscall-spec = tie.close (tie.spec in-slot-requires illegal-requires returns fault-requires returns-2)

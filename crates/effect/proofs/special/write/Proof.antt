@@ -10,14 +10,23 @@ keep-allowed-requires c κs = search needs
 written-requires : tie.Need-written-requires
 written-requires c κs = search needs
 
+cast-written : tie.Need-cast-written
+cast-written c = search needs
+
 align-requires : tie.Need-align-requires
 align-requires c κs = search needs
 
 written-requires-2 : tie.Need-written-requires-2
 written-requires-2 c κs = search needs
 
+cast-written-2 : tie.Need-cast-written-2
+cast-written-2 c = search needs
+
 written-requires-3 : tie.Need-written-requires-3
 written-requires-3 c κs = search needs
+
+cast-written-3 : tie.Need-cast-written-3
+cast-written-3 c = search needs
 
 keep-allowed-requires-2 : tie.Need-keep-allowed-requires-2
 keep-allowed-requires-2 c κs = search needs
@@ -54,9 +63,12 @@ write-spec =
     (tie.spec
     keep-allowed-requires
     written-requires
+    cast-written
     align-requires
     written-requires-2
+    cast-written-2
     written-requires-3
+    cast-written-3
     keep-allowed-requires-2
     written-requires-4
     nothing-requires

@@ -1,5 +1,5 @@
 use mathlib.Core.Path.{sym, _∙_}
-use Rattle.effect.specs.Action.{effectBy}
+use Rattle.effect.specs.Inner.{effectBy}
 use borrow.Author.Needs.{needs}
 use Rattle.effect.specs.Effect.{sums, sumsOrRaises}
 use Rattle.effect.proofs.sums.sum_or_raise.Statement.{statement}
@@ -23,5 +23,4 @@ unfolding sumsOrRaises sums effectBy
 returns-2 c = simp (c .sum2 .ensures, sym (c .before .before .out-of-range .ensures) ∙ c .before .if1 .left)
 
 pub sum-or-raise-spec : {M : Type 1} → statement M
-sum-or-raise-spec =
-    tie.close (tie.spec out-of-range-requires sum-requires returns sum-requires-2 returns-2)
+sum-or-raise-spec = tie.close (tie.spec out-of-range-requires sum-requires returns sum-requires-2 returns-2)

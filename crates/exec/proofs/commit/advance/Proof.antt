@@ -1,39 +1,45 @@
-use mathlib.Core.Path.{refl, ap, _∙_}
-use Rattle.effect.specs.declared.types.Inputs.{Inputs}
-use Rattle.effect.specs.Action.{effectBy, goesOn}
+use mathlib.Core.Path.{sym, ap}
 use Rattle.effect.specs.Effect.{advances}
-use Rattle.effect.proofs.completed.advanced.Reads as advanced-reads
-use Rattle.exec.proofs.Commits.{placed-as, owned-as, kept}
-use Rattle.exec.proofs.commit.advance.Reads as reads
-use Rattle.exec.proofs.commit.advance.Lts as lts
-use Rattle.exec.proofs.commit.commit_state.Reads as commit-state-reads
-use Rattle.exec.proofs.inputs_at.Reads as inputs-at-reads
+use Rattle.effect.specs.Inner.{effectBy}
+use Rattle.exec.specs.Inner.{actionEffect}
+use Rattle.exec.proofs.Commits.{sound-as, performed-as, performed}
 use borrow.Author.Needs.{needs}
 use Rattle.exec.proofs.commit.advance.Statement.{statement}
 use Rattle.exec.proofs.commit.advance.Tie as tie
 
-inputs-at-requires : tie.Need-inputs-at-requires
-inputs-at-requires c κs = search needs
+enum-known-action : tie.Need-enum-known-action
+enum-known-action c = search needs
 
-advanced-requires : tie.Need-advanced-requires
-advanced-requires c κs = search needs
+write-requires : tie.Need-write-requires
+unfolding effectBy advances
+write-requires c κs =
+    let p = c .before .before .before .before .before .before .before .pre in
+    (p .0, sound-as (ap (actionEffect _ _ _) (sym (c .before .before .before .action .given .1))) (p .1) .place-lt)
 
-commit-state-requires : tie.Need-commit-state-requires
-unfolding advances
-commit-state-requires c κs = let p = c .before .before .before .before .before .pre in (p .0, placed-as (c .advanced .ensures) (p .1 .1))
+other-requires : tie.Need-other-requires
+other-requires c κs = search needs
+
+done-requires : tie.Need-done-requires
+done-requires c κs = search needs
 
 same-length : tie.Need-same-length
 same-length c = search needs
 
+same-length-2 : tie.Need-same-length-2
+same-length-2 c = search needs
+
 returns : tie.Need-returns
-unfolding effectBy advances
 returns c =
-    let a = c .before .before .before .before .before .before .before .before .args in
-    let x = c .before .before .before .before .before .inputs-at .ensures in
-    let e = c .before .before .before .advanced .ensures in
-    kept (owned-as (e ∙ ap (λ (x : Inputs). goesOn x (a .w)) x) (c .before .before .commit-state .ensures)) refl
+    performed-as (ap (actionEffect _ _ _) (sym (c .before .before .before .before .before .before .before .before .action .given .1))) (c .before .before .before .before .write .ensures)
+
+same-length-3 : tie.Need-same-length-3
+same-length-3 c = search needs
+
+same-length-4 : tie.Need-same-length-4
+same-length-4 c = search needs
+
+returns-2 : tie.Need-returns-2
+returns-2 c = let o = c .before .before .before .before .before .other .ensures in performed (o .1) (o .0) (c .done .ensures _)
 
 pub advance-spec : {M : Type 1} → statement M
-advance-spec =
-    tie.close
-    (tie.spec inputs-at-requires advanced-requires commit-state-requires same-length returns)
+advance-spec = tie.close (tie.spec enum-known-action write-requires other-requires done-requires same-length same-length-2 returns same-length-3 same-length-4 returns-2)

@@ -5,6 +5,7 @@ use native.Mathlib.Numerals.{add-one}
 use native.Mathlib.Omega.{arith}
 use denote.Ref.{now}
 use lib.ListN.{length}
+use Rattle.effect.specs.State.{stateWords}
 use Rattle.semantics.specs.Commit.{clearLink, clearLinks}
 use Rattle.exec.proofs.commit.clear_links.Statement.{statement}
 use Rattle.exec.proofs.commit.clear_links.Tie as tie
@@ -14,10 +15,10 @@ unfolding clearLinks
 links-step i s w = rw (add-one i)
 
 abbrev Inv-loop : tie.InvT-loop
-Inv-loop states₀ w n i₀ states i = (states ≡ clearLinks i states₀ w) × (i ≤ length states₀ / 42) × (length states ≡ length states₀)
+Inv-loop states₀ w n i₀ states i = (states ≡ clearLinks i states₀ w) × (i ≤ length states₀ / stateWords) × (length states ≡ length states₀)
 
 abbrev μ-loop : tie.MeasureT-loop
-μ-loop states₀ w n i₀ states i = length states₀ / 42 - i
+μ-loop states₀ w n i₀ states i = length states₀ / stateWords - i
 
 loop-holds : tie.Need-loop-holds Inv-loop μ-loop
 unfolding clearLinks
@@ -44,19 +45,8 @@ same-length c = omega arith
 returns : tie.Need-returns Inv-loop μ-loop
 returns c =
     let l = c .before .loop in
-    let e : l .i ≡ length (now (c .before .before .before .args .states)) / 42 = omega arith in
+    let e : l .i ≡ length (now (c .before .before .before .args .states)) / stateWords = omega arith in
     rw (← e) (l .inv .0)
 
 pub clear-links-spec : {M : Type 1} → statement M
-clear-links-spec =
-    tie.close
-    (tie.spec
-    Inv-loop
-    μ-loop
-    loop-holds
-    clear-link-requires
-    add-i
-    loop-less
-    loop-again
-    same-length
-    returns)
+clear-links-spec = tie.close (tie.spec Inv-loop μ-loop loop-holds clear-link-requires add-i loop-less loop-again same-length returns)

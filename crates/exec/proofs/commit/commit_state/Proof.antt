@@ -2,12 +2,6 @@ use mathlib.Core.Path.{refl, ap, _∙_}
 use mathlib.Core.List.{List}
 use Prim.Native.Nat.{ℕ}
 use Rattle.semantics.specs.Commit.{putFlow, putStatus, putException, ownState}
-use Rattle.exec.proofs.commit.commit_state.Reads as reads
-use Rattle.exec.proofs.commit.commit_state.Lts as lts
-use Rattle.exec.proofs.commit.put_flow.Reads as put-flow-reads
-use Rattle.exec.proofs.commit.put_outcome.Reads as put-outcome-reads
-use Rattle.exec.proofs.commit.put_status.Reads as put-status-reads
-use Rattle.exec.proofs.commit.put_value.Reads as put-value-reads
 use borrow.Author.Needs.{needs}
 use Rattle.exec.proofs.commit.commit_state.Statement.{statement}
 use Rattle.exec.proofs.commit.commit_state.Tie as tie
@@ -43,12 +37,4 @@ returns c =
     }
 
 pub commit-state-spec : {M : Type 1} → statement M
-commit-state-spec =
-    tie.close
-    (tie.spec
-    put-value-requires
-    put-flow-requires
-    put-status-requires
-    put-outcome-requires
-    same-length
-    returns)
+commit-state-spec = tie.close (tie.spec put-value-requires put-flow-requires put-status-requires put-outcome-requires same-length returns)

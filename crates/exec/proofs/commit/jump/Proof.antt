@@ -1,38 +1,63 @@
-use mathlib.Core.Path.{refl, ap, _∙_}
-use Rattle.effect.specs.declared.types.Inputs.{Inputs}
-use Rattle.effect.specs.Action.{effectBy}
-use Rattle.effect.specs.Effect.{jumping}
-use Rattle.effect.proofs.jumps.jumped.Reads as jumped-reads
-use Rattle.exec.proofs.Commits.{placed-as, owned-as, kept}
-use Rattle.exec.proofs.commit.jump.Reads as reads
-use Rattle.exec.proofs.commit.jump.Lts as lts
-use Rattle.exec.proofs.commit.commit_state.Reads as commit-state-reads
-use Rattle.exec.proofs.inputs_at.Reads as inputs-at-reads
+use Rattle.exec.proofs.Commits.{as-action, sound-as, performed-as, performed}
 use borrow.Author.Needs.{needs}
 use Rattle.exec.proofs.commit.jump.Statement.{statement}
 use Rattle.exec.proofs.commit.jump.Tie as tie
 
+enum-known-action : tie.Need-enum-known-action
+enum-known-action c = search needs
+
 inputs-at-requires : tie.Need-inputs-at-requires
 inputs-at-requires c κs = search needs
 
-jumped-requires : tie.Need-jumped-requires
-jumped-requires c κs = search needs
+jump-effect-requires : tie.Need-jump-effect-requires
+jump-effect-requires c κs = search needs
 
-commit-state-requires : tie.Need-commit-state-requires
-commit-state-requires c κs = let p = c .before .before .before .before .before .pre in (p .0, placed-as (c .jumped .ensures) (p .1 .1))
+settle-requires : tie.Need-settle-requires
+settle-requires c κs =
+    let p = c .before .before .before .before .before .before .before .before .before .before .pre in
+    let told = c .before .before .before .before .before .before .action .given .1 in
+    (p .0 .0, sound-as (as-action _ _ _ told (c .before .inputs-at .ensures) (c .jump-effect .ensures)) (p .1))
+
+other-requires : tie.Need-other-requires
+other-requires c κs = search needs
+
+done-requires : tie.Need-done-requires
+done-requires c κs = search needs
 
 same-length : tie.Need-same-length
 same-length c = search needs
 
+same-length-2 : tie.Need-same-length-2
+same-length-2 c = search needs
+
 returns : tie.Need-returns
-unfolding effectBy
 returns c =
-    let j = c .before .before .before .before .before .before .before .before .args .j in
-    let x = c .before .before .before .before .before .inputs-at .ensures in
-    let e = c .before .before .before .jumped .ensures in
-    kept (owned-as (e ∙ ap (λ (x : Inputs). jumping x (j .place) (j .value) (j .target)) x) (c .before .before .commit-state .ensures)) refl
+    let e = c .before .before .before .before .before in
+    let told = e .before .before .before .before .before .before .action .given .1 in
+    performed-as (as-action _ _ _ told (e .before .inputs-at .ensures) (e .jump-effect .ensures)) (c .before .before .before .before .settle .ensures)
+
+same-length-3 : tie.Need-same-length-3
+same-length-3 c = search needs
+
+same-length-4 : tie.Need-same-length-4
+same-length-4 c = search needs
+
+returns-2 : tie.Need-returns-2
+returns-2 c = let o = c .before .before .before .before .before .other .ensures in performed (o .1) (o .0) (c .done .ensures _)
 
 pub jump-spec : {M : Type 1} → statement M
 jump-spec =
     tie.close
-    (tie.spec inputs-at-requires jumped-requires commit-state-requires same-length returns)
+    (tie.spec
+    enum-known-action
+    inputs-at-requires
+    jump-effect-requires
+    settle-requires
+    other-requires
+    done-requires
+    same-length
+    same-length-2
+    returns
+    same-length-3
+    same-length-4
+    returns-2)

@@ -4,18 +4,11 @@ use lib.ListN.{length}
 use Rattle.memory.specs.Memory.{stored}
 use Rattle.effect.specs.declared.types.Store.{Store}
 use Rattle.effect.specs.declared.types.Inputs.{Inputs}
-use Rattle.effect.specs.Action.{effectBy}
-use Rattle.effect.proofs.action.effect_by.Reads as effect-by-reads
-use Rattle.effect.proofs.action.store_of.Reads as store-of-reads
+use Rattle.effect.specs.Inner.{effectBy}
 use Rattle.semantics.specs.Commit.{memoryAfter}
-use Rattle.lawful.specs.Sound.{SoundStore}
-use Rattle.exec.specs.Report.{entryInputs}
+use Rattle.lawful.specs.Inner.{SoundStore}
+use Rattle.exec.specs.Inner.{entryInputs}
 use Rattle.exec.proofs.Commits.{placed-as, owned-as}
-use Rattle.exec.proofs.commit.other.Reads as reads
-use Rattle.exec.proofs.commit.other.Lts as lts
-use Rattle.exec.proofs.commit.commit_state.Reads as commit-state-reads
-use Rattle.exec.proofs.commit.put_store.Reads as put-store-reads
-use Rattle.exec.proofs.inputs_at.Reads as inputs-at-reads
 use borrow.Author.Needs.{needs}
 use Rattle.exec.proofs.commit.other.Statement.{statement}
 use Rattle.exec.proofs.commit.other.Tie as tie
@@ -31,7 +24,7 @@ commit-state-requires c κs =
     let a = c .before .before .before .before .before .before .args in
     let p = c .before .before .before .before .before .before .pre in
     let x = c .before .before .inputs-at .ensures in
-    (p .0, placed-as (c .effect-by .ensures ∙ ap (λ (x : Inputs). effectBy x (a .action)) x) (p .1 .1 .place-lt))
+    (p .0 .0, placed-as (c .effect-by .ensures ∙ ap (λ (x : Inputs). effectBy x (a .action)) x) (p .1 .place-lt))
 
 store-of-requires : tie.Need-store-of-requires
 store-of-requires c κs = search needs
@@ -40,7 +33,7 @@ put-store-requires : tie.Need-put-store-requires
 put-store-requires c κs =
     let a = c .before .before .before .before .before .before .before .before .before .before .before .args in
     let p = c .before .before .before .before .before .before .before .before .before .before .before .pre in
-    subst (SoundStore (length (now (a .memory)))) (sym (c .store-of .ensures _)) (p .1 .1 .sound-store)
+    subst (SoundStore (length (now (a .memory)))) (sym (c .store-of .ensures _)) (p .1 .sound-store)
 
 same-length : tie.Need-same-length
 same-length c = search needs
@@ -59,14 +52,4 @@ returns c =
     (c .before .before .put-store .ensures ∙ ap (λ (s : Store). stored (s .width) (now (a .memory)) (s .address) (s .value)) s, o)
 
 pub other-spec : {M : Type 1} → statement M
-other-spec =
-    tie.close
-    (tie.spec
-    inputs-at-requires
-    effect-by-requires
-    commit-state-requires
-    store-of-requires
-    put-store-requires
-    same-length
-    same-length-2
-    returns)
+other-spec = tie.close (tie.spec inputs-at-requires effect-by-requires commit-state-requires store-of-requires put-store-requires same-length same-length-2 returns)

@@ -2,8 +2,6 @@ use mathlib.Core.Path.{refl}
 use native.Mathlib.Omega.{arith}
 use lib.ListN.{length-set}
 use Rattle.semantics.specs.Commit.{putFlow}
-use Rattle.exec.proofs.commit.put_flow.Reads as reads
-use Rattle.exec.proofs.commit.put_flow.Lts as lts
 use borrow.Author.Needs.{needs}
 use Rattle.exec.proofs.commit.put_flow.Statement.{statement}
 use Rattle.exec.proofs.commit.put_flow.Tie as tie
@@ -25,5 +23,4 @@ unfolding putFlow
 returns c = refl
 
 pub put-flow-spec : {M : Type 1} → statement M
-put-flow-spec =
-    tie.close (tie.spec slice-write-own slice-write-own-2 slice-write-own-3 same-length returns)
+put-flow-spec = tie.close (tie.spec slice-write-own slice-write-own-2 slice-write-own-3 same-length returns)

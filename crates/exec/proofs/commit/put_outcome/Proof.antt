@@ -4,9 +4,6 @@ use Rattle.effect.specs.declared.types.Outcome.the-variants.{Completed}
 use Rattle.effect.specs.declared.types.Outcome.{Outcome}
 use Rattle.semantics.specs.Commit.{putException}
 use Rattle.exec.proofs.Commits.{at-completed}
-use Rattle.exec.proofs.commit.put_outcome.Reads as reads
-use Rattle.exec.proofs.commit.put_outcome.Lts as lts
-use Rattle.exec.proofs.commit.put_raised.Reads as put-raised-reads
 use borrow.Author.Needs.{needs}
 use Rattle.exec.proofs.commit.put_outcome.Statement.{statement}
 use Rattle.exec.proofs.commit.put_outcome.Tie as tie
@@ -37,6 +34,4 @@ returns-2 c =
     c .before .before .put-raised .ensures ∙ ap (λ (o : Outcome). putException o (now (a .own)) 0) (sym o)
 
 pub put-outcome-spec : {M : Type 1} → statement M
-put-outcome-spec =
-    tie.close
-    (tie.spec enum-told enum-known-outcome put-raised-requires returns same-length returns-2)
+put-outcome-spec = tie.close (tie.spec enum-told enum-known-outcome put-raised-requires returns same-length returns-2)

@@ -1,9 +1,6 @@
-use mathlib.Core.Path.{refl}
 use native.Mathlib.Omega.{arith}
 use lib.ListN.{length-set}
 use Rattle.semantics.specs.Commit.{putException}
-use Rattle.exec.proofs.commit.put_raised.Reads as reads
-use Rattle.exec.proofs.commit.put_raised.Lts as lts
 use borrow.Author.Needs.{needs}
 use Rattle.exec.proofs.commit.put_raised.Statement.{statement}
 use Rattle.exec.proofs.commit.put_raised.Tie as tie
@@ -31,5 +28,4 @@ unfolding putException
 returns c = simp (c .vector .ensures)
 
 pub put-raised-spec : {M : Type 1} → statement M
-put-raised-spec =
-    tie.close (tie.spec vector-requires slice-write-own slice-write-own-2 slice-write-own-3 slice-write-own-4 same-length returns)
+put-raised-spec = tie.close (tie.spec vector-requires slice-write-own slice-write-own-2 slice-write-own-3 slice-write-own-4 same-length returns)

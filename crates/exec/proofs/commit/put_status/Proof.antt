@@ -2,8 +2,6 @@ use mathlib.Core.Path.{refl}
 use native.Mathlib.Omega.{arith}
 use lib.ListN.{length-set}
 use Rattle.semantics.specs.Commit.{putStatus}
-use Rattle.exec.proofs.commit.put_status.Reads as reads
-use Rattle.exec.proofs.commit.put_status.Lts as lts
 use borrow.Author.Needs.{needs}
 use Rattle.exec.proofs.commit.put_status.Statement.{statement}
 use Rattle.exec.proofs.commit.put_status.Tie as tie
@@ -28,12 +26,4 @@ unfolding putStatus
 returns c = refl
 
 pub put-status-spec : {M : Type 1} → statement M
-put-status-spec =
-    tie.close
-    (tie.spec
-    slice-write-own
-    slice-write-own-2
-    slice-write-own-3
-    slice-write-own-4
-    same-length
-    returns)
+put-status-spec = tie.close (tie.spec slice-write-own slice-write-own-2 slice-write-own-3 slice-write-own-4 same-length returns)

@@ -1,8 +1,5 @@
 use denote.Ref.{now}
-use Rattle.memory.proofs.store.Reads as store-reads
 use Rattle.exec.proofs.Commits.{storable, not-stored}
-use Rattle.exec.proofs.commit.put_store.Reads as reads
-use Rattle.exec.proofs.commit.put_store.Lts as lts
 use borrow.Author.Needs.{needs}
 use Rattle.exec.proofs.commit.put_store.Statement.{statement}
 use Rattle.exec.proofs.commit.put_store.Tie as tie

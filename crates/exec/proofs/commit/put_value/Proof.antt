@@ -1,8 +1,6 @@
 use native.Mathlib.Nat.{zero-add}
 use borrow.Author.Tests.{eq-eqb, ne-eqb}
 use Rattle.semantics.specs.Commit.{putValue}
-use Rattle.exec.proofs.commit.put_value.Reads as reads
-use Rattle.exec.proofs.commit.put_value.Lts as lts
 use borrow.Author.Needs.{needs}
 use Rattle.exec.proofs.commit.put_value.Statement.{statement}
 use Rattle.exec.proofs.commit.put_value.Tie as tie
@@ -28,5 +26,4 @@ unfolding putValue
 returns-2 c = simp (eq-eqb _ _ (c .if1 .left))
 
 pub put-value-spec : {M : Type 1} → statement M
-put-value-spec =
-    tie.close (tie.spec cast-own mul-own slice-write-own same-length returns returns-2)
+put-value-spec = tie.close (tie.spec cast-own mul-own slice-write-own same-length returns returns-2)

@@ -1,31 +1,28 @@
-use mathlib.Core.Path.{refl, ap, _∙_}
-use native.Mathlib.Omega.{arith}
-use Rattle.effect.specs.declared.types.Inputs.{Inputs}
-use Rattle.effect.specs.Action.{effectBy}
-use Rattle.effect.specs.Effect.{saving}
-use Rattle.effect.proofs.accesses.saved.Reads as saved-reads
-use Rattle.semantics.specs.Commit.{memoryAfter}
-use Rattle.exec.proofs.Commits.{placed-as, owned-as, performed}
-use Rattle.exec.proofs.commit.save.Reads as reads
-use Rattle.exec.proofs.commit.save.Lts as lts
-use Rattle.exec.proofs.commit.commit_state.Reads as commit-state-reads
-use Rattle.exec.proofs.commit.put_store.Reads as put-store-reads
-use Rattle.exec.proofs.inputs_at.Reads as inputs-at-reads
+use Rattle.exec.proofs.Commits.{as-action, sound-as, performed-as, performed}
 use borrow.Author.Needs.{needs}
 use Rattle.exec.proofs.commit.save.Statement.{statement}
 use Rattle.exec.proofs.commit.save.Tie as tie
 
+enum-known-action : tie.Need-enum-known-action
+enum-known-action c = search needs
+
 inputs-at-requires : tie.Need-inputs-at-requires
 inputs-at-requires c κs = search needs
 
-saved-requires : tie.Need-saved-requires
-saved-requires c κs = search needs
+save-effect-requires : tie.Need-save-effect-requires
+save-effect-requires c κs = search needs
 
-commit-state-requires : tie.Need-commit-state-requires
-commit-state-requires c κs = let p = c .before .before .before .before .before .before .pre in (p .0, placed-as (c .saved .ensures) (omega arith))
+settle-requires : tie.Need-settle-requires
+settle-requires c κs =
+    let p = c .before .before .before .before .before .before .before .before .before .before .pre in
+    let told = c .before .before .before .before .before .before .action .given .1 in
+    (p .0 .0, sound-as (as-action _ _ _ told (c .before .inputs-at .ensures) (c .save-effect .ensures)) (p .1))
 
-put-store-requires : tie.Need-put-store-requires
-put-store-requires c κs = search needs
+other-requires : tie.Need-other-requires
+other-requires c κs = search needs
+
+done-requires : tie.Need-done-requires
+done-requires c κs = search needs
 
 same-length : tie.Need-same-length
 same-length c = search needs
@@ -34,21 +31,33 @@ same-length-2 : tie.Need-same-length-2
 same-length-2 c = search needs
 
 returns : tie.Need-returns
-unfolding effectBy memoryAfter
 returns c =
-    let a = c .before .before .before .before .before .before .before .before .before .before .before .before .before .before .args in
-    let x = c .before .before .before .before .before .before .before .before .before .before .inputs-at .ensures in
-    let e = c .before .before .before .before .before .before .before .before .saved .ensures ∙ ap (λ (x : Inputs). saving x (a .s)) x in
-    performed (owned-as e (c .before .before .before .before .before .before .before .commit-state .ensures)) (c .before .before .before .put-store .ensures) refl
+    let e = c .before .before .before .before .before in
+    let told = e .before .before .before .before .before .before .action .given .1 in
+    performed-as (as-action _ _ _ told (e .before .inputs-at .ensures) (e .save-effect .ensures)) (c .before .before .before .before .settle .ensures)
+
+same-length-3 : tie.Need-same-length-3
+same-length-3 c = search needs
+
+same-length-4 : tie.Need-same-length-4
+same-length-4 c = search needs
+
+returns-2 : tie.Need-returns-2
+returns-2 c = let o = c .before .before .before .before .before .other .ensures in performed (o .1) (o .0) (c .done .ensures _)
 
 pub save-spec : {M : Type 1} → statement M
 save-spec =
     tie.close
     (tie.spec
+    enum-known-action
     inputs-at-requires
-    saved-requires
-    commit-state-requires
-    put-store-requires
+    save-effect-requires
+    settle-requires
+    other-requires
+    done-requires
     same-length
     same-length-2
-    returns)
+    returns
+    same-length-3
+    same-length-4
+    returns-2)

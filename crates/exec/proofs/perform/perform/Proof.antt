@@ -1,7 +1,3 @@
-use Rattle.exec.proofs.perform.perform.Reads as reads
-use Rattle.exec.proofs.perform.perform.Lts as lts
-use Rattle.exec.proofs.perform.high.Reads as high-reads
-use Rattle.exec.proofs.perform.low.Reads as low-reads
 use borrow.Author.Needs.{needs}
 use Rattle.exec.proofs.perform.perform.Statement.{statement}
 use Rattle.exec.proofs.perform.perform.Tie as tie
@@ -19,7 +15,7 @@ same-length-2 : tie.Need-same-length-2
 same-length-2 c = search needs
 
 returns : tie.Need-returns
-returns c = c .before .before .before .before .low .ensures _
+returns c = search needs
 
 same-length-3 : tie.Need-same-length-3
 same-length-3 c = search needs
@@ -31,14 +27,4 @@ returns-2 : tie.Need-returns-2
 returns-2 c = search needs
 
 pub perform-spec : {M : Type 1} → statement M
-perform-spec =
-    tie.close
-    (tie.spec
-    low-requires
-    high-requires
-    same-length
-    same-length-2
-    returns
-    same-length-3
-    same-length-4
-    returns-2)
+perform-spec = tie.close (tie.spec low-requires high-requires same-length same-length-2 returns same-length-3 same-length-4 returns-2)

@@ -3,7 +3,7 @@ use Prim.Native.Nat.{_+_}
 use native.Mathlib.Omega.{arith}
 use Rattle.bits.proofs.Tests.{equal-but}
 use Rattle.isa.specs.InstructionSet.{rows, fits, firstFit}
-use Rattle.isa.specs.Parts.{kindOf, kindIn}
+use Rattle.isa.specs.Inner.{kindOf, kindIn}
 use borrow.Author.Needs.{needs}
 use Rattle.isa.proofs.decoder.cache_kind.Statement.{statement}
 use Rattle.isa.proofs.decoder.cache_kind.Tie as tie

@@ -1,6 +1,6 @@
 use mathlib.Core.Path.{ap, subst, _∙_}
 use Prim.Native.Nat.{ℕ}
-use Rattle.isa.specs.Parts.{packed, fieldsIn}
+use Rattle.isa.specs.Inner.{packed, fieldsIn}
 use Rattle.isa.proofs.Shapes.{Describes, describes}
 use Rattle.isa.proofs.Complete.{own-entry}
 use borrow.Author.Needs.{needs}

@@ -2,7 +2,7 @@ use mathlib.Core.Path.{sym, ap, _∙_}
 use borrow.Author.Needs.{needs}
 use Rattle.bits.specs.Word.{extend}
 use Rattle.isa.specs.InstructionSet.{immediate}
-use Rattle.isa.specs.Parts.{formOf}
+use Rattle.isa.specs.Inner.{formOf}
 use Rattle.isa.specs.declared.kinds.Form.{Form}
 use Rattle.isa.specs.declared.kinds.Form.the-variants.{Zext, Sext, Jump}
 use Rattle.isa.proofs.Immediates.{jump-extend}
@@ -43,15 +43,4 @@ returns-3 c =
     ∙ sym (ap (λ (f : Form). immediate (formOf f) (a .n)) (same-form (a .form) Jump (c .before .before .match .keys3)))
 
 pub extended-spec : {M : Type 1} → statement M
-extended-spec =
-    tie.close
-    (tie.spec
-    enum-told
-    enum-told-2
-    sign-extend-requires
-    enum-told-3
-    mul-sign-extend
-    sign-extend-requires-2
-    returns
-    returns-2
-    returns-3)
+extended-spec = tie.close (tie.spec enum-told enum-told-2 sign-extend-requires enum-told-3 mul-sign-extend sign-extend-requires-2 returns returns-2 returns-3)

@@ -18,7 +18,11 @@ extended-requires : tie.Need-extended-requires
 extended-requires c κs = search needs
 
 returns : tie.Need-returns
-returns c = (simp (c .extended .ensures, c .before .immediate-bits .ensures .0, c .before .before .register3 .ensures .0, c .before .before .before .register2 .ensures .0, c .before .before .before .before .register .ensures .0), record { d = c .before .before .before .before .register .ensures .1; a = c .before .before .before .register2 .ensures .1; b = c .before .before .register3 .ensures .1 })
+returns c = let i = c .before .immediate-bits in
+    let b = c .before .before .register3 in
+    let a = c .before .before .before .register2 in
+    let d = c .before .before .before .before .register in
+    (simp (c .extended .ensures, i .ensures .0, b .ensures .0, a .ensures .0, d .ensures .0), record { d = d .ensures .1; a = a .ensures .1; b = b .ensures .1 })
 
 pub fields-spec : {M : Type 1} → statement M
 fields-spec = tie.close (tie.spec register-requires register-requires-2 register-requires-3 immediate-bits-requires extended-requires returns)

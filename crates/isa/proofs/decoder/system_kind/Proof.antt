@@ -2,7 +2,7 @@ use mathlib.Core.List.{[], _∷_}
 use native.Mathlib.Omega.{arith}
 use Rattle.bits.proofs.Tests.{equal-but}
 use Rattle.isa.specs.InstructionSet.{rows, fits, firstFit}
-use Rattle.isa.specs.Parts.{kindOf, kindIn}
+use Rattle.isa.specs.Inner.{kindOf, kindIn}
 use Rattle.isa.proofs.decoder.system_kind.Statement.{statement}
 use Rattle.isa.proofs.decoder.system_kind.Tie as tie
 

@@ -37,7 +37,22 @@ add-result-3 : tie.Need-add-result-3
 add-result-3 c = search needs
 
 returns : tie.Need-returns
-returns c = simp (c .placed .ensures .0, c .before .field-bits .ensures, c .before .before .present3 .ensures .0, c .before .before .before .present2 .ensures .0, c .before .before .before .before .present .ensures .0, present-at)
+returns c = let d = c .before .before .before .before .present in
+    simp (c .placed .ensures .0, c .before .field-bits .ensures, c .before .before .present3 .ensures .0, c .before .before .before .present2 .ensures .0, d .ensures .0, present-at)
 
 pub field-word-spec : {M : Type 1} → statement M
-field-word-spec = tie.close (tie.spec present-requires mul-result present-requires-2 mul-result-2 add-result present-requires-3 mul-result-3 add-result-2 field-bits-requires placed-requires add-result-3 returns)
+field-word-spec =
+    tie.close
+    (tie.spec
+    present-requires
+    mul-result
+    present-requires-2
+    mul-result-2
+    add-result
+    present-requires-3
+    mul-result-3
+    add-result-2
+    field-bits-requires
+    placed-requires
+    add-result-3
+    returns)

@@ -2,7 +2,7 @@ use mathlib.Core.List.{[], _∷_}
 use mathlib.Core.Path.{_≡_, sym, ap, _∙_}
 use native.Mathlib.Omega.{arith}
 use Rattle.bits.proofs.Tests.{equal-but}
-use Rattle.isa.specs.Parts.{layouts, shapeOf}
+use Rattle.isa.specs.Inner.{layouts, shapeOf}
 use borrow.Author.Needs.{needs}
 use Rattle.isa.proofs.kinds.layout.Statement.{statement}
 use Rattle.isa.proofs.kinds.layout.Tie as tie
@@ -110,8 +110,43 @@ returns-14 c = c .make14 .ensures ∙ sym (ap shapeOf (c .before .match .keys14)
 
 returns-15 : tie.Need-returns-15
 unfolding layouts
-returns-15 c = let z : c .before .before .args .n ≡ 0 = equal-but (λ x. x) (λ x. 0) (14 ∷ 13 ∷ 12 ∷ 11 ∷ 10 ∷ 9 ∷ 8 ∷ 7 ∷ 6 ∷ 5 ∷ 4 ∷ 3 ∷ 2 ∷ 1 ∷ []) 0 15 tt (c .before .before .args .n) (omega arith) (omega arith) (c .before .match .rest) in
+returns-15 c =
+    let n = c .before .before .args .n in
+    let z : n ≡ 0 =
+    equal-but (λ x. x) (λ x. 0) (14 ∷ 13 ∷ 12 ∷ 11 ∷ 10 ∷ 9 ∷ 8 ∷ 7 ∷ 6 ∷ 5 ∷ 4 ∷ 3 ∷ 2 ∷ 1 ∷ []) 0 15 tt n (omega arith) (omega arith) (c .before .match .rest) in
     c .make15 .ensures ∙ sym (ap shapeOf z)
 
 pub layout-spec : {M : Type 1} → statement M
-layout-spec = tie.close (tie.spec make-requires make-requires-2 make-requires-3 make-requires-4 make-requires-5 make-requires-6 make-requires-7 make-requires-8 make-requires-9 make-requires-10 make-requires-11 make-requires-12 make-requires-13 make-requires-14 make-requires-15 returns returns-2 returns-3 returns-4 returns-5 returns-6 returns-7 returns-8 returns-9 returns-10 returns-11 returns-12 returns-13 returns-14 returns-15)
+layout-spec =
+    tie.close
+    (tie.spec
+    make-requires
+    make-requires-2
+    make-requires-3
+    make-requires-4
+    make-requires-5
+    make-requires-6
+    make-requires-7
+    make-requires-8
+    make-requires-9
+    make-requires-10
+    make-requires-11
+    make-requires-12
+    make-requires-13
+    make-requires-14
+    make-requires-15
+    returns
+    returns-2
+    returns-3
+    returns-4
+    returns-5
+    returns-6
+    returns-7
+    returns-8
+    returns-9
+    returns-10
+    returns-11
+    returns-12
+    returns-13
+    returns-14
+    returns-15)

@@ -2,7 +2,7 @@ use mathlib.Core.Path.{refl, _∙_}
 use mathlib.Core.List.{List, [], _∷_}
 use Prim.Native.Nat.{ℕ}
 use Rattle.isa.specs.InstructionSet.{rows, rowOf, kindRow, width}
-use Rattle.isa.specs.Parts.{layouts, shapeOf, shapeIn}
+use Rattle.isa.specs.Inner.{layouts, shapeOf, shapeIn}
 use Rattle.isa.proofs.Shapes.{table-values, all-below}
 use borrow.Author.Needs.{needs}
 use Rattle.isa.proofs.kinds.shape_of.Statement.{statement}

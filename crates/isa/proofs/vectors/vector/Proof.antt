@@ -3,7 +3,7 @@ use mathlib.Core.Path.{_≡_, refl, ap, _∙_}
 use Prim.Native.Nat.{ℕ, _<_}
 use native.Mathlib.Omega.{arith}
 use lib.ListN.{getD}
-use Rattle.isa.specs.Parts.{causeNumber}
+use Rattle.isa.specs.Inner.{causeNumber}
 use Rattle.isa.specs.Vectors.{vector}
 use Rattle.isa.specs.declared.vectors.Cause.{Cause}
 use Rattle.isa.specs.declared.vectors.Cause.the-variants.{Bus, Alignment, Illegal, Range, Syscall, Trap}

@@ -1,0 +1,98 @@
+-- Helper of the laws. The rules of a state (effect/specs/State.antt) as facts on its parts, what of them an instruction reads and its effect keeps, and
+-- where an effect may write.
+use mathlib.Core.Path.{_≡_}
+use Prim.Native.Nat.{ℕ, _+_, _%_, _<_, _≤_}
+use Rattle.arith.specs.Status.{allowed}
+use Rattle.memory.specs.Memory.{Width}
+use Rattle.effect.specs.State.{stateWords, pcAt, delayAt, targetAt, srAt, epcrAt, eearAt, esrAt, linkAt, linkAddressAt, modeAt, halted, running}
+use Rattle.effect.specs.declared.types.Inputs.{Inputs}
+use Rattle.effect.specs.declared.types.Board.{Board}
+use Rattle.effect.specs.declared.types.Flow.{Flow}
+use Rattle.effect.specs.declared.types.Link.{Link}
+use Rattle.effect.specs.declared.types.Exception.{Exception}
+use Rattle.effect.specs.declared.types.Outcome.{Outcome}
+use Rattle.effect.specs.declared.types.Outcome.the-variants.{Completed, Raised}
+use Rattle.effect.specs.declared.types.Store.{Store}
+use Rattle.effect.specs.declared.types.Effect.{Effect}
+
+-- "SR and ESR may have bits SM 0, .. DSX 13; bit 15 is 1, all others 0."
+abbrev pub Status : ℕ → Type 0
+Status x = allowed x ≡ x
+
+-- "PC, target, EPCR and link address are multiples of 4"
+abbrev pub Multiple : ℕ → Type 0
+Multiple x = x % 4 ≡ 0
+
+-- "33: delay, 1 if that instruction is in a delay slot, else 0." "target is 0 if delay is 0"
+pub record LawfulFlow (f : Flow) : Type 0 where
+  pub delay-bit : f .delay ≤ 1
+  pub pc-multiple : Multiple (f .pc)
+  pub target-multiple : Multiple (f .target)
+  pub no-target : f .delay ≡ 0 → f .target ≡ 0
+
+-- "39: link, 0 or 1." "link address 0 if link is 0"
+pub record LawfulLink (l : Link) : Type 0 where
+  pub held-bit : l .held ≤ 1
+  pub address-multiple : Multiple (l .address)
+  pub no-address : l .held ≡ 0 → l .address ≡ 0
+
+-- "41: mode, 0 halted or 3 running."
+pub data Mode : ℕ → Type 0 where
+  is-halted : Mode halted
+  is-running : Mode running
+
+-- the whole state of a core of a board, g being its word at each place. "r0 is 0"
+pub record LawfulState (board : Board) (core : ℕ) (g : ℕ → ℕ) : Type 0 where
+  pub zero-register : g 0 ≡ 0
+  pub flow-lawful : LawfulFlow (record { pc = g pcAt; delay = g delayAt; target = g targetAt })
+  pub link-lawful : LawfulLink (record { held = g linkAt; address = g linkAddressAt })
+  pub sr-lawful : Status (g srAt)
+  pub epcr-lawful : Multiple (g epcrAt)
+  pub esr-lawful : Status (g esrAt)
+  pub mode-lawful : Mode (g modeAt)
+
+-- what an instruction reads obeys the rules, and its destination is a register
+pub record LawfulInputs (x : Inputs) : Type 0 where
+  pub register : x .d < 32
+  pub flow-lawful : LawfulFlow (x .flow)
+  pub link-lawful : LawfulLink (x .link)
+  pub sr-lawful : Status (x .sr)
+  pub epcr-lawful : Multiple (x .epcr)
+  pub esr-lawful : Status (x .esr)
+
+-- the word that an effect writes at a place: a register, EPCR, EEAR or ESR
+pub data LawfulWord : ℕ → ℕ → Type 0 where
+  to-register : {place v : ℕ} → place < 32 → LawfulWord place v
+  to-epcr : {v : ℕ} → Multiple v → LawfulWord epcrAt v
+  to-eear : {v : ℕ} → LawfulWord eearAt v
+  to-esr : {v : ℕ} → Status v → LawfulWord esrAt v
+
+pub data LawfulOutcome : Outcome → Type 0 where
+  completes : LawfulOutcome Completed
+  raised : {x : Exception} → Multiple (x .epcr) → Status (x .esr) → LawfulOutcome (Raised x)
+
+-- all that an effect names obeys the rules (the vector of an exception, where PC goes at the commit, is a multiple of 4 by the table)
+pub record Lawful (e : Effect) : Type 0 where
+  pub word-lawful : LawfulWord (e .place) (e .value)
+  pub flow-lawful : LawfulFlow (e .flow)
+  pub link-lawful : LawfulLink (e .link)
+  pub sr-lawful : Status (e .sr)
+  pub mode-lawful : Mode (e .mode)
+  pub outcome-lawful : LawfulOutcome (e .outcome)
+
+-- ---- what an effect may write to, whatever its core's state: a word of that state, and bytes in one word of memory
+
+-- bytes in one word of a memory of len bytes
+pub record InWord (len : ℕ) (s : Store) : Type 0 where
+  pub wide : Width (s .width)
+  pub inside : s .address + s .width ≤ len
+  pub in-word : s .address % 4 + s .width ≤ 4
+
+pub data SoundStore (len : ℕ) (s : Store) : Type 0 where
+  none : s .width ≡ 0 → SoundStore len s
+  some : InWord len s → SoundStore len s
+
+-- len is the length of memory
+pub record Sound (len : ℕ) (e : Effect) : Type 0 where
+  pub place-lt : e .place < stateWords
+  pub sound-store : SoundStore len (e .store)
