@@ -11,21 +11,22 @@ use borrow.Author.Tests.{eq-eqb, ne-eqb}
 use Rattle.bits.specs.Choice.{if_then_else_}
 use Rattle.bits.specs.Word.{field}
 use Rattle.isa.specs.InstructionSet.{decode}
-use Rattle.isa.specs.Parts.{kindOf}
+use Rattle.isa.specs.Inner.{kindOf}
 use Rattle.isa.proofs.Complete.{decode-kind}
 use Rattle.isa.proofs.Rows.{kind-range}
 use Rattle.memory.specs.Memory.{memoryWord}
 use Rattle.effect.specs.Effect.{raises}
 use Rattle.effect.specs.declared.types.Board.{Board}
 use Rattle.effect.specs.declared.types.Effect.{Effect}
-use Rattle.semantics.specs.Commit.{effectOf, fetchFault, stores, touched, memoryAfter}
-use Rattle.lawful.specs.Sound.{Sound}
+use Rattle.semantics.specs.Commit.{effectOf, fetchFault, writesMemory, touched, memoryAfter}
+use Rattle.lawful.specs.Inner.{Sound}
 use Rattle.lawful.proofs.Cases.{by-equality}
 use Rattle.lawful.proofs.Instruction.{effect-sound, no-store-kept, other-words-kept}
-use Rattle.engine.specs.Plain.{Plain, isRunning, isInside, fetched, formAt, plainEffect, plainAfter, plainStep}
+use Rattle.refusal.specs.Lent.{formAt}
+use Rattle.engine.specs.Plain.{Plain, isRunning, isInside, fetched, plainEffect, plainAfter, plainStep}
 use Rattle.engine.specs.Fast.{Fast, filled, cachedForm, emptied, fastFetch, fastFault, fastStep}
 use Rattle.engine.specs.History.{History, cachedAtFirst, historyFetch, historyStep}
-use Rattle.engine.specs.Invariant.{Right, historyOf}
+use Rattle.engine.specs.Inner.{Right, historyOf}
 
 -- a form is never 0
 decode-filled : (w : ℕ) → decode w ≡ 0 → ⊥
@@ -34,14 +35,14 @@ decode-filled w h =
     let r : 1 ≤ kindOf w = kind-range w .0 in
     omega arith
 
-form-filled : (mem : List ℕ) (k : ℕ) → formAt mem k ≡ 0 → ⊥
+form-filled : (board : Board) (mem : List ℕ) (k : ℕ) → formAt board mem k ≡ 0 → ⊥
 unfolding formAt
-form-filled mem k h = decode-filled (memoryWord mem k) h
+form-filled board mem k h = decode-filled (memoryWord mem k) h
 
 -- nor is what a fetch inside memory finds
-pub form-found : (mem c : List ℕ) (k : ℕ) → cachedForm mem c k ≡ 0 → ⊥
-form-found mem c k h =
-    by-equality (getD c k 0) 0 (λ q. form-filled mem k (rw (eq-eqb _ _ q) at h)) (λ q. q (rw (ne-eqb _ _ q) at h))
+pub form-found : (board : Board) (mem c : List ℕ) (k : ℕ) → cachedForm board mem c k ≡ 0 → ⊥
+form-found board mem c k h =
+    by-equality (getD c k 0) 0 (λ q. form-filled board mem k (rw (eq-eqb _ _ q) at h)) (λ q. q (rw (ne-eqb _ _ q) at h))
 
 -- ---- what is cached
 
@@ -64,7 +65,7 @@ length-cached (x ∷ c) = ap suc (length-cached c)
 
 cached-emptied : (e : Effect) (c : List ℕ) → cachedAtFirst (emptied e c) ≡ emptied e (cachedAtFirst c)
 unfolding emptied
-cached-emptied e c = go (stores e)
+cached-emptied e c = go (writesMemory e)
   where
     go : (b : Bool) → cachedAtFirst (if b then set c (touched e) 0 else c) ≡ (if b then set (cachedAtFirst c) (touched e) 0 else cachedAtFirst c)
     go true = cached-set c (touched e) 0
@@ -78,27 +79,28 @@ filled-inside (x ∷ c) zero n = omega arith
 filled-inside (x ∷ c) (suc k) n = let h : k < length c = filled-inside c k n in omega arith
 
 -- a filled entry or a decoded word: the same
-cached-form : (mem c : List ℕ) (k : ℕ) → Right c mem → cachedForm mem c k ≡ formAt mem k
-cached-form mem c k r =
+cached-form : (board : Board) (mem c : List ℕ) (k : ℕ) → Right board c mem → cachedForm board mem c k ≡ formAt board mem k
+cached-form board mem c k r =
     by-equality (getD c k 0) 0 (λ q. rw (eq-eqb _ _ q)) (λ q. rw (ne-eqb _ _ q) (r k (filled-inside c k q) q))
 
-right-filled : (mem c : List ℕ) (k : ℕ) → Right c mem → Right (set c k (formAt mem k)) mem
-right-filled mem c k r j i q = by-equality j k same other
+right-filled : (board : Board) (mem c : List ℕ) (k : ℕ) → Right board c mem → Right board (set c k (formAt board mem k)) mem
+right-filled board mem c k r j i q = by-equality j k same other
   where
     l : j < length c
     l = rw length-set at i
 
-    same : j ≡ k → getD (set c k (formAt mem k)) j 0 ≡ formAt mem j
-    same e = let h : k < length c = rw e at l in rw e (getD-set-same c k (formAt mem k) 0 h)
+    same : j ≡ k → getD (set c k (formAt board mem k)) j 0 ≡ formAt board mem j
+    same e = let h : k < length c = rw e at l in rw e (getD-set-same c k (formAt board mem k) 0 h)
 
-    other : (j ≡ k → ⊥) → getD (set c k (formAt mem k)) j 0 ≡ formAt mem j
+    other : (j ≡ k → ⊥) → getD (set c k (formAt board mem k)) j 0 ≡ formAt board mem j
     other n =
-        let o : getD (set c k (formAt mem k)) j 0 ≡ getD c j 0 = getD-set-other c k j (formAt mem k) 0 n in
+        let o : getD (set c k (formAt board mem k)) j 0 ≡ getD c j 0 = getD-set-other c k j (formAt board mem k) 0 n in
         o ∙ r j l (λ z. q (o ∙ z))
 
-right-touched : (mem c : List ℕ) (e : Effect) → Sound (length mem) e → Right c mem → Right (set c (touched e) 0) (memoryAfter mem e)
+right-touched : (board : Board) (mem c : List ℕ) (e : Effect) → Sound (length mem) e → Right board c mem
+    → Right board (set c (touched e) 0) (memoryAfter mem e)
 unfolding formAt
-right-touched mem c e sound r j i q = by-equality j (touched e) same other
+right-touched board mem c e sound r j i q = by-equality j (touched e) same other
   where
     l : j < length c
     l = rw length-set at i
@@ -113,12 +115,13 @@ right-touched mem c e sound r j i q = by-equality j (touched e) same other
         let o : getD (set c (touched e) 0) j 0 ≡ getD c j 0 = getD-set-other c (touched e) j 0 0 n in
         o ∙ r j l (λ z. q (o ∙ z)) ∙ ap decode (sym (other-words-kept mem e sound j n))
 
-right-emptied : (mem c : List ℕ) (e : Effect) → Sound (length mem) e → Right c mem → Right (emptied e c) (memoryAfter mem e)
+right-emptied : (board : Board) (mem c : List ℕ) (e : Effect) → Sound (length mem) e → Right board c mem
+    → Right board (emptied e c) (memoryAfter mem e)
 unfolding emptied
-right-emptied mem c e sound r = go (stores e) refl
+right-emptied board mem c e sound r = go (writesMemory e) refl
   where
-    go : (b : Bool) → stores e ≡ b → Right (if b then set c (touched e) 0 else c) (memoryAfter mem e)
-    go true h = right-touched mem c e sound r
+    go : (b : Bool) → writesMemory e ≡ b → Right board (if b then set c (touched e) 0 else c) (memoryAfter mem e)
+    go true h = right-touched board mem c e sound r
     go false h = rw (no-store-kept mem e h) r
 
 -- ---- one entry
@@ -130,55 +133,55 @@ pub entry-as-it-stands : (board : Board) (x : Fast) (core w : ℕ) → isRunning
 unfolding fastStep fastFetch
 entry-as-it-stands board x core w r i e = rw (r, i, e, ne-eqb (decode w) 0 (decode-filled w))
 
-fault-stores : (s : List ℕ) (core : ℕ) → stores (fetchFault s core) ≡ false
+fault-stores : (s : List ℕ) (core : ℕ) → writesMemory (fetchFault s core) ≡ false
 unfolding raises
 fault-stores s core = refl
 
 -- what is left is the plain run's p, and goes with the history h
-pub record Agrees (y : Fast) (p : Plain) (h : History) : Type 0 where
+pub record Agrees (board : Board) (y : Fast) (p : Plain) (h : History) : Type 0 where
   pub same-plain : y .plain ≡ p
   pub same-history : historyOf y ≡ h
-  pub right-again : Right (y .cache) (y .plain .memory)
+  pub right-again : Right board (y .cache) (y .plain .memory)
 
-module _ (board : Board) (x : Fast) (core : ℕ) (right : Right (x .cache) (x .plain .memory)) where
+module _ (board : Board) (x : Fast) (core : ℕ) (right : Right board (x .cache) (x .plain .memory)) where
   done-agrees : (k : ℕ) (e : Effect) → Sound (length (x .plain .memory)) e
-      → Agrees
-      (record { plain = plainAfter (x .plain) core e; cache = emptied e (set (x .cache) k (formAt (x .plain .memory) k)); reused = x .reused + filled (getD (x .cache) k 0) })
+      → Agrees board
+      (record { plain = plainAfter (x .plain) core e; cache = emptied e (set (x .cache) k (formAt board (x .plain .memory) k)); reused = x .reused + filled (getD (x .cache) k 0) })
       (plainAfter (x .plain) core e)
       (record { cached = emptied e (set (cachedAtFirst (x .cache)) k 1); reused = x .reused + getD (cachedAtFirst (x .cache)) k 0 })
   unfolding plainAfter
   done-agrees k e sound =
-      let f = formAt (x .plain .memory) k in
-      let one : filled f ≡ 1 = rw (ne-eqb f 0 (form-filled (x .plain .memory) k)) in
+      let f = formAt board (x .plain .memory) k in
+      let one : filled f ≡ 1 = rw (ne-eqb f 0 (form-filled board (x .plain .memory) k)) in
       record {
         same-plain = refl;
         same-history =
             ap₂ (λ (c : List ℕ) (n : ℕ). record { cached = c; reused = x .reused + n })
             (cached-emptied e (set (x .cache) k f) ∙ ap (emptied e) (cached-set (x .cache) k f ∙ ap (set (cachedAtFirst (x .cache)) k) one))
             (sym (cached-at (x .cache) k));
-        right-again = right-emptied (x .plain .memory) (set (x .cache) k f) e sound (right-filled (x .plain .memory) (x .cache) k right);
+        right-again = right-emptied board (x .plain .memory) (set (x .cache) k f) e sound (right-filled board (x .plain .memory) (x .cache) k right);
       }
 
   module _ (inside : isInside (x .plain .memory) (x .plain .states) core ≡ true) where
     effect-inside : plainEffect board (x .plain .memory) (x .plain .states) core
-        ≡ effectOf board (x .plain .memory) (x .plain .states) core (formAt (x .plain .memory) (fetched (x .plain .states) core))
+        ≡ effectOf board (x .plain .memory) (x .plain .states) core (formAt board (x .plain .memory) (fetched (x .plain .states) core))
     unfolding plainEffect
     effect-inside = rw inside
 
-    fetch-agrees : Agrees
-        (fastFetch x core (fetched (x .plain .states) core)
-        (effectOf board (x .plain .memory) (x .plain .states) core (cachedForm (x .plain .memory) (x .cache) (fetched (x .plain .states) core))))
+    fetch-agrees : Agrees board
+        (fastFetch board x core (fetched (x .plain .states) core)
+        (effectOf board (x .plain .memory) (x .plain .states) core (cachedForm board (x .plain .memory) (x .cache) (fetched (x .plain .states) core))))
         (plainAfter (x .plain) core (plainEffect board (x .plain .memory) (x .plain .states) core))
         (historyFetch board (x .plain) (historyOf x) core)
     unfolding fastFetch historyFetch
     fetch-agrees =
         let k = fetched (x .plain .states) core in
-        rw (effect-inside, cached-form (x .plain .memory) (x .cache) k right)
-        (done-agrees k (effectOf board (x .plain .memory) (x .plain .states) core (formAt (x .plain .memory) k))
-        (effect-sound board (x .plain .memory) (x .plain .states) core (formAt (x .plain .memory) k)))
+        rw (effect-inside, cached-form board (x .plain .memory) (x .cache) k right)
+        (done-agrees k (effectOf board (x .plain .memory) (x .plain .states) core (formAt board (x .plain .memory) k))
+        (effect-sound board (x .plain .memory) (x .plain .states) core (formAt board (x .plain .memory) k)))
 
   fault-agrees : isInside (x .plain .memory) (x .plain .states) core ≡ false →
-      Agrees (fastFault x core) (plainAfter (x .plain) core (plainEffect board (x .plain .memory) (x .plain .states) core)) (historyOf x)
+      Agrees board (fastFault x core) (plainAfter (x .plain) core (plainEffect board (x .plain .memory) (x .plain .states) core)) (historyOf x)
   unfolding fastFault plainEffect plainAfter
   fault-agrees outside =
       let e = fetchFault (x .plain .states) core in
@@ -188,10 +191,10 @@ module _ (board : Board) (x : Fast) (core : ℕ) (right : Right (x .cache) (x .p
         right-again = rw (no-store-kept (x .plain .memory) e (fault-stores (x .plain .states) core)) right;
       })
 
-  by-tests : (a b : Bool) → isInside (x .plain .memory) (x .plain .states) core ≡ b → Agrees
+  by-tests : (a b : Bool) → isInside (x .plain .memory) (x .plain .states) core ≡ b → Agrees board
       (if a then
-      (if b then fastFetch x core (fetched (x .plain .states) core)
-      (effectOf board (x .plain .memory) (x .plain .states) core (cachedForm (x .plain .memory) (x .cache) (fetched (x .plain .states) core)))
+      (if b then fastFetch board x core (fetched (x .plain .states) core)
+      (effectOf board (x .plain .memory) (x .plain .states) core (cachedForm board (x .plain .memory) (x .cache) (fetched (x .plain .states) core)))
       else fastFault x core) else x)
       (if a then plainAfter (x .plain) core (plainEffect board (x .plain .memory) (x .plain .states) core) else x .plain)
       (if a then (if b then historyFetch board (x .plain) (historyOf x) core else historyOf x) else historyOf x)
@@ -199,6 +202,6 @@ module _ (board : Board) (x : Fast) (core : ℕ) (right : Right (x .cache) (x .p
   by-tests true false e = fault-agrees e
   by-tests false b e = record { same-plain = refl; same-history = refl; right-again = right }
 
-  pub step-agrees : Agrees (fastStep board x core) (plainStep board (x .plain) core) (historyStep board (x .plain) (historyOf x) core)
+  pub step-agrees : Agrees board (fastStep board x core) (plainStep board (x .plain) core) (historyStep board (x .plain) (historyOf x) core)
   unfolding fastStep plainStep historyStep
   step-agrees = by-tests (isRunning (x .plain .states) core) (isInside (x .plain .memory) (x .plain .states) core) refl

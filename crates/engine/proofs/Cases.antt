@@ -16,12 +16,13 @@ use Rattle.effect.specs.Effect.{noStore}
 use Rattle.effect.specs.declared.types.Outcome.{Outcome}
 use Rattle.semantics.specs.Commit.{wordAt, effectOf, fetchFault}
 use Rattle.lawful.proofs.Cases.{if-both}
-use Rattle.exec.specs.Report.{tells, Executed}
+use Rattle.exec.specs.Inner.{tells, Executed}
 use Rattle.exec.specs.declared.Done.{Done}
-use Rattle.engine.specs.Plain.{isRunning, isInside, fetched, formAt, plainAfter}
+use Rattle.refusal.specs.Lent.{formAt}
+use Rattle.engine.specs.Plain.{isRunning, isInside, fetched, plainAfter}
 use Rattle.engine.specs.Fast.{filled, cachedForm, emptied, fastFetch, fastFault, fastStep, turnOf}
 use Rattle.engine.specs.Answer.{AtMost}
-use Rattle.engine.specs.Invariant.{ReusedOnce, Grown, Backed, fetchedOf, fetchAt, cacheAfter, Stepped}
+use Rattle.engine.specs.Inner.{ReusedOnce, Grown, Backed, fetchedOf, fetchAt, cacheAfter, Stepped}
 use Rattle.engine.specs.declared.answer.Counts.{Counts}
 use Rattle.engine.specs.declared.steps.Fetched.{Fetched}
 use Rattle.engine.specs.declared.steps.Turn.the-variants.{Idle, FetchFault, Instruction}
@@ -51,12 +52,12 @@ grown i a g = record { executed-le = omega arith; raised-le = omega arith; reuse
 
 -- ---- a fetch
 
-module _ (mem c : List ℕ) (k : ℕ) {old : ℕ} (q : old ≡ getD c k 0) where
+module _ (board : Board) (mem c : List ℕ) (k : ℕ) {old : ℕ} (q : old ≡ getD c k 0) where
   module _ (h : old ≡ 0 → ⊥) where
     filled-there : eqb (getD c k 0) 0 ≡ false
     filled-there = ne-eqb (getD c k 0) 0 (λ z. h (q ∙ z))
 
-    pub filled-kept : c ≡ set c k (cachedForm mem c k)
+    pub filled-kept : c ≡ set c k (cachedForm board mem c k)
     filled-kept = rw filled-there (sym (set-getD c k 0))
 
     pub filled-found : filled (getD c k 0) ≡ 1
@@ -66,32 +67,32 @@ module _ (mem c : List ℕ) (k : ℕ) {old : ℕ} (q : old ≡ getD c k 0) where
   empty-found h = rw (eq-eqb (getD c k 0) 0 (sym q ∙ h))
 
   -- the form that the code makes of the entry is the one that is executed
-  module _ {entry : ℕ} (e : entry ≡ (if eqb old 0 then formAt mem k else old)) where
-    pub form-executed : entry ≡ cachedForm mem c k
-    form-executed = e ∙ ap (λ (n : ℕ). if eqb n 0 then formAt mem k else n) q
+  module _ {entry : ℕ} (e : entry ≡ (if eqb old 0 then formAt board mem k else old)) where
+    pub form-executed : entry ≡ cachedForm board mem c k
+    form-executed = e ∙ ap (λ (n : ℕ). if eqb n 0 then formAt board mem k else n) q
 
-    pub form-fetched : {u : ℕ} → filled (getD c k 0) ≡ u → record { entry = entry; reused = u } ≡ fetchedOf mem c k
+    pub form-fetched : {u : ℕ} → filled (getD c k 0) ≡ u → record { entry = entry; reused = u } ≡ fetchedOf board mem c k
     form-fetched h = ap₂ (λ (n u : ℕ). record { entry = n; reused = u }) form-executed (sym h)
 
 -- a fetch at pc: inside memory, or outside
-module _ (mem c : List ℕ) (pc : ℕ) where
-  pub at-inside : pc + 4 ≤ length mem → {f : Fetched} {c′ : List ℕ} → f ≡ fetchedOf mem c (pc / 4)
-      → c′ ≡ set c (pc / 4) (cachedForm mem c (pc / 4)) → (f ≡ fetchAt mem c pc) × (c′ ≡ cacheAfter mem c pc)
+module _ (board : Board) (mem c : List ℕ) (pc : ℕ) where
+  pub at-inside : pc + 4 ≤ length mem → {f : Fetched} {c′ : List ℕ} → f ≡ fetchedOf board mem c (pc / 4)
+      → c′ ≡ set c (pc / 4) (cachedForm board mem c (pc / 4)) → (f ≡ fetchAt board mem c pc) × (c′ ≡ cacheAfter board mem c pc)
   at-inside h p q = (rw (le-leb _ _ h) p, rw (le-leb _ _ h) q)
 
-  pub at-outside : length mem < pc + 4 → (record { entry = 0; reused = 0 } ≡ fetchAt mem c pc) × (c ≡ cacheAfter mem c pc)
+  pub at-outside : length mem < pc + 4 → (record { entry = 0; reused = 0 } ≡ fetchAt board mem c pc) × (c ≡ cacheAfter board mem c pc)
   at-outside h = (rw (lt-leb _ _ h), rw (lt-leb _ _ h))
 
   -- a filled entry is that of a word inside
   pub filled-is-inside : Backed c mem → pc % 4 ≡ 0 → (getD c (pc / 4) 0 ≡ 0 → ⊥) → pc + 4 ≤ length mem
   filled-is-inside b m n = let k : pc / 4 < length c = filled-inside c (pc / 4) n in omega (arith, b, m, k)
 
-  module _ {f : Fetched} {c′ : List ℕ} (p : f ≡ fetchAt mem c pc) (q : c′ ≡ cacheAfter mem c pc) where
+  module _ {f : Fetched} {c′ : List ℕ} (p : f ≡ fetchAt board mem c pc) (q : c′ ≡ cacheAfter board mem c pc) where
     -- what was found tells whether the word is inside
     pub record Inside : Type 0 where
       pub inside : pc + 4 ≤ length mem
-      pub found : f ≡ fetchedOf mem c (pc / 4)
-      pub cache : c′ ≡ set c (pc / 4) (cachedForm mem c (pc / 4))
+      pub found : f ≡ fetchedOf board mem c (pc / 4)
+      pub cache : c′ ≡ set c (pc / 4) (cachedForm board mem c (pc / 4))
 
     pub found-inside : (f .entry ≡ 0 → ⊥) → Inside
     found-inside n = go (leb (pc + 4) (length mem)) refl
@@ -108,7 +109,7 @@ module _ (mem c : List ℕ) (pc : ℕ) where
     found-outside n = go (leb (pc + 4) (length mem)) refl
       where
         go : (b : Bool) → leb (pc + 4) (length mem) ≡ b → Outside
-        go true e = let z : f ≡ fetchedOf mem c (pc / 4) = p ∙ rw e in absurd (form-found mem c (pc / 4) (sym (ap (λ (g : Fetched). g .entry) z) ∙ n))
+        go true e = let z : f ≡ fetchedOf board mem c (pc / 4) = p ∙ rw e in absurd (form-found board mem c (pc / 4) (sym (ap (λ (g : Fetched). g .entry) z) ∙ n))
         go false e = record { outside = leb-false _ _ e; cache = q ∙ rw e }
 
 -- ---- an entry
@@ -131,7 +132,7 @@ module _ (board : Board) (mem s c : List ℕ) (core : ℕ) where
   -- the cache after the fetch of word k, and after its instruction
   pub fast-inside : {k : ℕ} (c′ : List ℕ) {mem′ s′ c″ : List ℕ} {r : Done} {u : ℕ} → k ≡ fetched s core
       → wordAt s core modeAt ≡ running → wordAt s core pcAt + 4 ≤ length mem
-      → c′ ≡ set c k (cachedForm mem c k) → Executed mem s core (effectOf board mem s core (cachedForm mem c k)) mem′ s′ r
+      → c′ ≡ set c k (cachedForm board mem c k) → Executed mem s core (effectOf board mem s core (cachedForm board mem c k)) mem′ s′ r
       → c″ ≡ (if r .stored then set c′ (r .address / 4) 0 else c′) → u ≡ filled (getD c k 0)
       → Stepped board mem s c core mem′ s′ c″ (Instruction (r .outcome) u)
   unfolding fastStep fastFetch plainAfter emptied turnOf

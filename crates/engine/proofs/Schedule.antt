@@ -15,17 +15,18 @@ use Rattle.memory.specs.Memory.{memoryWord}
 use Rattle.effect.specs.State.{pcAt}
 use Rattle.effect.specs.declared.types.Board.{Board}
 use Rattle.effect.specs.declared.types.Effect.{Effect}
-use Rattle.semantics.specs.Commit.{wordAt, coreCount, inputs, noFields, stores}
-use Rattle.lawful.specs.Rules.{Lawful}
+use Rattle.semantics.specs.Commit.{wordAt, coreCount, inputs, noFields, writesMemory}
+use Rattle.lawful.specs.Inner.{Lawful}
 use Rattle.lawful.specs.Accepted.{AllAccepted}
 use Rattle.lawful.proofs.Cases.{if-both, by-equality}
 use Rattle.lawful.proofs.Lawful.{faults-lawful}
 use Rattle.lawful.proofs.States.{length-states, states-accepted}
 use Rattle.lawful.proofs.Instruction.{inputs-lawful, decoded-lawful}
-use Rattle.engine.specs.Plain.{Plain, isRunning, isInside, fetched, formAt, plainEffect, plainAfter, plainStep, plainFrom}
+use Rattle.refusal.specs.Lent.{formAt}
+use Rattle.engine.specs.Plain.{Plain, isRunning, isInside, fetched, plainEffect, plainAfter, plainStep, plainFrom}
 use Rattle.engine.specs.Fast.{Fast, emptied, fastFetch, fastFault, fastStep, fastFrom}
 use Rattle.engine.specs.History.{cachedAtFirst, historyFrom, entriesFrom}
-use Rattle.engine.specs.Invariant.{Right, historyOf}
+use Rattle.engine.specs.Inner.{Right, historyOf}
 use Rattle.engine.proofs.Agree.{Agrees, step-agrees, cached-at, length-cached}
 
 -- ---- the entry i of a schedule
@@ -42,8 +43,8 @@ module _ (board : Board) (schedule : List ℕ) (i : ℕ) (x : Fast) where
 
 -- ---- both runs agree
 
-pub from-agrees : (board : Board) (schedule : List ℕ) (x : Fast) → Right (x .cache) (x .plain .memory)
-    → Agrees (fastFrom board schedule x) (plainFrom board schedule (x .plain)) (historyFrom board schedule (x .plain) (historyOf x))
+pub from-agrees : (board : Board) (schedule : List ℕ) (x : Fast) → Right board (x .cache) (x .plain .memory)
+    → Agrees board (fastFrom board schedule x) (plainFrom board schedule (x .plain)) (historyFrom board schedule (x .plain) (historyOf x))
 unfolding fastFrom plainFrom historyFrom
 from-agrees board [] x r = record { same-plain = refl; same-history = refl; right-again = r }
 from-agrees board (core ∷ schedule) x r =
@@ -57,7 +58,7 @@ uncached p n = record { plain = p; cache = []; reused = n }
 
 none-emptied : (e : Effect) → emptied e [] ≡ []
 unfolding emptied
-none-emptied e = if-both (λ (l : List ℕ). l ≡ []) (stores e) refl refl
+none-emptied e = if-both (λ (l : List ℕ). l ≡ []) (writesMemory e) refl refl
 
 module _ (board : Board) (p : Plain) (core n : ℕ) where
   by-tests : (a b : Bool) → isRunning (p .states) core ≡ a → isInside (p .memory) (p .states) core ≡ b
@@ -78,22 +79,23 @@ from-uncached board (core ∷ schedule) p n = rw (step-uncached board p core n) 
 
 -- ---- accepted states stay accepted
 
-pub effect-lawful : (board : Board) (mem s : List ℕ) (core : ℕ) → core < coreCount s → AllAccepted s → Lawful (plainEffect board mem s core)
+pub effect-lawful : (board : Board) (mem s : List ℕ) (core : ℕ) → core < coreCount s → AllAccepted board s → Lawful (plainEffect board mem s core)
 unfolding plainEffect formAt
 effect-lawful board mem s core h a =
     if-both Lawful (isInside mem s core) (decoded-lawful board mem s core (memoryWord mem (fetched s core)) (a core h))
     (faults-lawful (inputs s core noFields) (inputs-lawful s core noFields (omega arith) (a core h)) Bus (wordAt s core pcAt))
 
-pub step-accepted : (board : Board) (p : Plain) (core : ℕ) → core < coreCount (p .states) → AllAccepted (p .states)
-    → AllAccepted (plainStep board p core .states)
+pub step-accepted : (board : Board) (p : Plain) (core : ℕ) → core < coreCount (p .states) → AllAccepted board (p .states)
+    → AllAccepted board (plainStep board p core .states)
 unfolding plainStep plainAfter
 step-accepted board p core h a =
-    if-both (λ (q : Plain). AllAccepted (q .states)) (isRunning (p .states) core)
+    if-both (λ (q : Plain). AllAccepted board (q .states)) (isRunning (p .states) core)
     (states-accepted (p .states) core (plainEffect board (p .memory) (p .states) core) (effect-lawful board (p .memory) (p .states) core h a) h a) a
 
 -- after an entry of the fast run, states are accepted and the cache is right again
-pub step-kept : (board : Board) (x : Fast) (core : ℕ) → core < coreCount (x .plain .states) → AllAccepted (x .plain .states)
-    → Right (x .cache) (x .plain .memory) → {y : Fast} → y ≡ fastStep board x core → AllAccepted (y .plain .states) × Right (y .cache) (y .plain .memory)
+pub step-kept : (board : Board) (x : Fast) (core : ℕ) → core < coreCount (x .plain .states) → AllAccepted board (x .plain .states)
+    → Right board (x .cache) (x .plain .memory) → {y : Fast} → y ≡ fastStep board x core
+    → AllAccepted board (y .plain .states) × Right board (y .cache) (y .plain .memory)
 step-kept board x core h a r q =
     let s = step-agrees board x core r in
     rw (q, s .same-plain) (step-accepted board (x .plain) core h a, rw (s .same-plain) at (s .right-again))
@@ -105,8 +107,8 @@ step-length board p core =
     (length-states (p .states) core (plainEffect board (p .memory) (p .states) core)) refl
 
 pub from-accepted : (board : Board) (schedule : List ℕ) (p : Plain)
-    → ((i : ℕ) → i < length schedule → getD schedule i 0 < coreCount (p .states)) → AllAccepted (p .states)
-    → AllAccepted (plainFrom board schedule p .states)
+    → ((i : ℕ) → i < length schedule → getD schedule i 0 < coreCount (p .states)) → AllAccepted board (p .states)
+    → AllAccepted board (plainFrom board schedule p .states)
 unfolding plainFrom
 from-accepted board [] p n a = a
 from-accepted board (core ∷ schedule) p n a =
@@ -115,27 +117,27 @@ from-accepted board (core ∷ schedule) p n a =
 
 -- ---- the cache that a fast run leaves
 
-length-entries : (k : ℕ) (mem h : List ℕ) → length (entriesFrom k mem h) ≡ length h
+length-entries : (board : Board) (k : ℕ) (mem h : List ℕ) → length (entriesFrom board k mem h) ≡ length h
 unfolding entriesFrom
-length-entries k mem [] = refl
-length-entries k mem (b ∷ h) = ap suc (length-entries (k + 1) mem h)
+length-entries board k mem [] = refl
+length-entries board k mem (b ∷ h) = ap suc (length-entries board (k + 1) mem h)
 
-entries-at : (k : ℕ) (mem h : List ℕ) (j : ℕ) → j < length h
-    → getD (entriesFrom k mem h) j 0 ≡ (if eqb (getD h j 0) 0 then 0 else formAt mem (k + j))
+entries-at : (board : Board) (k : ℕ) (mem h : List ℕ) (j : ℕ) → j < length h
+    → getD (entriesFrom board k mem h) j 0 ≡ (if eqb (getD h j 0) 0 then 0 else formAt board mem (k + j))
 unfolding entriesFrom
-entries-at k mem [] j g = absurd (let z : j < 0 = g in omega arith)
-entries-at k mem (b ∷ h) zero g = let e : k + 0 ≡ k = omega arith in rw e
-entries-at k mem (b ∷ h) (suc j) g =
+entries-at board k mem [] j g = absurd (let z : j < 0 = g in omega arith)
+entries-at board k mem (b ∷ h) zero g = let e : k + 0 ≡ k = omega arith in rw e
+entries-at board k mem (b ∷ h) (suc j) g =
     let e : k + suc j ≡ k + 1 + j = omega arith in
-    rw e (entries-at (k + 1) mem h j (omega arith))
+    rw e (entries-at board (k + 1) mem h j (omega arith))
 
 -- "a held word's entry is the form of what memory now holds there, any other 0"
-pub cache-is : (mem c : List ℕ) → Right c mem → c ≡ entriesFrom 0 mem (cachedAtFirst c)
-cache-is mem c r = ext-getD 0 c (entriesFrom 0 mem (cachedAtFirst c)) (sym (length-entries 0 mem (cachedAtFirst c) ∙ length-cached c)) at
+pub cache-is : (board : Board) (mem c : List ℕ) → Right board c mem → c ≡ entriesFrom board 0 mem (cachedAtFirst c)
+cache-is board mem c r = ext-getD 0 c (entriesFrom board 0 mem (cachedAtFirst c)) (sym (length-entries board 0 mem (cachedAtFirst c) ∙ length-cached c)) at
   where
-    at : (j : ℕ) → j < length c → getD c j 0 ≡ getD (entriesFrom 0 mem (cachedAtFirst c)) j 0
+    at : (j : ℕ) → j < length c → getD c j 0 ≡ getD (entriesFrom board 0 mem (cachedAtFirst c)) j 0
     at j h =
         let l : j < length (cachedAtFirst c) = rw length-cached h in
         let z : 0 + j ≡ j = omega arith in
-        sym (entries-at 0 mem (cachedAtFirst c) j l ∙ rw (cached-at, z)
+        sym (entries-at board 0 mem (cachedAtFirst c) j l ∙ rw (cached-at, z)
         (by-equality (getD c j 0) 0 (λ q. rw (eq-eqb _ _ q) (sym q)) (λ q. rw (ne-eqb _ _ q) (sym (r j h q)))))

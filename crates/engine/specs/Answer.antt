@@ -4,9 +4,10 @@ use mathlib.Core.Path.{_≡_}
 use Prim.Native.Nat.{ℕ, _+_, _*_, _^_, _≤_}
 use lib.Dec.{eqb}
 use Rattle.bits.specs.Choice.{if_then_else_}
+use Rattle.refusal.specs.Lent.{Lent, Left, boardOf}
+use Rattle.refusal.specs.Refusal.{maxSchedule, plainRefusal, fastRefusal, refusalNumber}
 use Rattle.engine.specs.Plain.{Plain, plainRun, start}
 use Rattle.engine.specs.History.{history, entriesFrom}
-use Rattle.engine.specs.Refusal.{plainRefusal, fastRefusal, refusalNumber}
 use Rattle.engine.specs.declared.answer.Counts.{Counts}
 use Rattle.engine.specs.declared.answer.Answer.{Answer}
 use Rattle.engine.specs.declared.answer.Answer.the-variants.{Ran, Refused}
@@ -39,32 +40,36 @@ pub record AtMost (m : ℕ) (n : Counts) : Type 0 where
 -- ---- what is left
 
 -- memory and states that are left, with the counts of executed and raised
-abbrev pub plainOf : List ℕ → List ℕ → Counts → Plain
-plainOf mem s n = record { memory = mem; states = s; executed = n .executed; raised = n .raised }
+abbrev pub plainOf : Left → Counts → Plain
+plainOf x n = record { memory = x .memory; states = x .states; executed = n .executed; raised = n .raised }
 
 -- a where nothing is refused; b where something is: "counts are then 0. .. Nothing lent is written."
 abbrev pub unlessRefused {ℓ} : {A : Type ℓ} → ℕ → A → A → A
 unlessRefused refusal a b = if eqb refusal 0 then a else b
 
--- the plain run of mem, s and schedule answers r and leaves mem′ and s′; "reused (0 in the plain run)"
-pub record PlainAnswer (mem s schedule mem′ s′ : List ℕ) (r : Answer) : Type 0 where
-  pub refusal : number r ≡ plainRefusal mem s schedule
-  pub left : plainOf mem′ s′ (countsOf r) ≡ unlessRefused (plainRefusal mem s schedule) (plainRun mem s schedule) (start mem s)
+-- the plain run of l answers r and leaves x; "reused (0 in the plain run)"
+pub record PlainAnswer (l : Lent) (x : Left) (r : Answer) : Type 0 where
+  pub refusal : number r ≡ plainRefusal l
+  pub left : plainOf x (countsOf r) ≡ unlessRefused (plainRefusal l) (plainRun l) (start l)
   pub none-reused : countsOf r .reused ≡ 0
-  pub small : AtMost 65536 (countsOf r)
+  pub small : AtMost maxSchedule (countsOf r)
 
 -- "After the fast run a held word's entry is the form of what memory now holds there, any other 0"
-unfoldable pub cacheLeft : List ℕ → List ℕ → List ℕ → List ℕ → List ℕ
-cacheLeft mem s schedule cache = entriesFrom 0 (plainRun mem s schedule .memory) (history mem s schedule cache .cached)
+unfoldable pub cacheLeft : Lent → List ℕ → List ℕ
+cacheLeft l cache = entriesFrom (boardOf l) 0 (plainRun l .memory) (history l cache .cached)
 
--- The fast run of mem, s, schedule and cache answers r and leaves mem′, s′ and cache′. Demand 3: "both end with the same memory, the same
--- sheets, the same count of instructions executed and the same count of exceptions raised"; "Afterwards each entry of the table and the reused
--- count are exactly what document 01's history says, and the table is accepted again with that memory and those sheets." ("accepted again: the
--- memory, sheets and table left meet none that concerns them": with an empty schedule, which meets neither 4 nor 5, none at all)
-pub record FastAnswer (mem s schedule cache mem′ s′ cache′ : List ℕ) (r : Answer) : Type 0 where
-  pub refusal : number r ≡ fastRefusal mem s schedule cache
-  pub left : plainOf mem′ s′ (countsOf r) ≡ unlessRefused (fastRefusal mem s schedule cache) (plainRun mem s schedule) (start mem s)
-  pub cache-left : cache′ ≡ unlessRefused (fastRefusal mem s schedule cache) (cacheLeft mem s schedule cache) cache
-  pub reused-count : countsOf r .reused ≡ unlessRefused (fastRefusal mem s schedule cache) (history mem s schedule cache .reused) 0
-  pub small : AtMost 65536 (countsOf r)
-  pub accepted-again : fastRefusal mem s schedule cache ≡ 0 → fastRefusal mem′ s′ [] cache′ ≡ 0
+-- what l left is lent again, with an empty schedule, which meets neither 4 nor 5
+abbrev pub again : Lent → Left → Lent
+again l x = record { memory = x .memory; states = x .states; schedule = [] }
+
+-- The fast run of l and cache answers r and leaves x and cache′. Demand 3: "both end with the same memory, the same sheets, the same count of
+-- instructions executed and the same count of exceptions raised"; "Afterwards each entry of the table and the reused count are exactly what
+-- document 01's history says, and the table is accepted again with that memory and those sheets." ("accepted again: the memory, sheets and
+-- table left meet none that concerns them")
+pub record FastAnswer (l : Lent) (cache : List ℕ) (x : Left) (cache′ : List ℕ) (r : Answer) : Type 0 where
+  pub refusal : number r ≡ fastRefusal l cache
+  pub left : plainOf x (countsOf r) ≡ unlessRefused (fastRefusal l cache) (plainRun l) (start l)
+  pub cache-left : cache′ ≡ unlessRefused (fastRefusal l cache) (cacheLeft l cache) cache
+  pub reused-count : countsOf r .reused ≡ unlessRefused (fastRefusal l cache) (history l cache .reused) 0
+  pub small : AtMost maxSchedule (countsOf r)
+  pub accepted-again : fastRefusal l cache ≡ 0 → fastRefusal (again l x) cache′ ≡ 0

@@ -7,8 +7,9 @@ use lib.ListN.{getD, set}
 use Rattle.bits.specs.Choice.{if_then_else_}
 use Rattle.effect.specs.declared.types.Board.{Board}
 use Rattle.effect.specs.declared.types.Effect.{Effect}
-use Rattle.semantics.specs.Commit.{effectOf, fetchFault, stores, touched, raisedBy}
-use Rattle.engine.specs.Plain.{Plain, isRunning, isInside, fetched, formAt, plainAfter}
+use Rattle.semantics.specs.Commit.{effectOf, fetchFault, writesMemory, touched, raisedBy}
+use Rattle.refusal.specs.Lent.{formAt}
+use Rattle.engine.specs.Plain.{Plain, isRunning, isInside, fetched, plainAfter}
 use Rattle.engine.specs.declared.answer.Counts.{Counts}
 use Rattle.engine.specs.declared.steps.Turn.{Turn}
 use Rattle.engine.specs.declared.steps.Turn.the-variants.{Idle, FetchFault, Instruction}
@@ -25,18 +26,18 @@ filled entry = if eqb entry 0 then 0 else 1
 
 -- "The step under the fast run executes a filled entry as it stands and not its word: for every entry that some word decodes to, its outcome is
 -- that form's, also where memory holds another word there." The law is entry-as-it-stands (proofs/Agree.antt).
-abbrev pub cachedForm : List ℕ → List ℕ → ℕ → ℕ
-cachedForm mem cache k = if eqb (getD cache k 0) 0 then formAt mem k else getD cache k 0
+abbrev pub cachedForm : Board → List ℕ → List ℕ → ℕ → ℕ
+cachedForm board mem cache k = if eqb (getD cache k 0) 0 then formAt board mem k else getD cache k 0
 
 -- "a store then empties the entry of the word it touches, even if that is the running one or the value is the same"
 unfoldable pub emptied : Effect → List ℕ → List ℕ
-emptied e l = if stores e then set l (touched e) 0 else l
+emptied e l = if writesMemory e then set l (touched e) 0 else l
 
 -- "a fetch inside memory counts as reused if its entry is filled and otherwise fills it" (a filled one stays as it is)
-unfoldable pub fastFetch : Fast → ℕ → ℕ → Effect → Fast
-fastFetch x core k e = record {
+unfoldable pub fastFetch : Board → Fast → ℕ → ℕ → Effect → Fast
+fastFetch board x core k e = record {
   plain = plainAfter (x .plain) core e;
-  cache = emptied e (set (x .cache) k (cachedForm (x .plain .memory) (x .cache) k));
+  cache = emptied e (set (x .cache) k (cachedForm board (x .plain .memory) (x .cache) k));
   reused = x .reused + filled (getD (x .cache) k 0);
 }
 
@@ -50,19 +51,19 @@ fastStep board x core =
     let s = x .plain .states in
     let k = fetched s core in
     if isRunning s core then
-    (if isInside mem s core then fastFetch x core k (effectOf board mem s core (cachedForm mem (x .cache) k)) else fastFault x core) else
+    (if isInside mem s core then fastFetch board x core k (effectOf board mem s core (cachedForm board mem (x .cache) k)) else fastFault x core) else
     x
 
--- "A step ends in a completed instruction or in one exception": what the entry of a core hands up to the run, and what the run makes of it
+-- "A step ends in a completed instruction or in one exception": what the entry of a core hands up to the run
 unfoldable pub turnOf : Board → List ℕ → List ℕ → List ℕ → ℕ → Turn
 turnOf board mem s cache core =
     let k = fetched s core in
     if isRunning s core then
-    (if isInside mem s core then Instruction (effectOf board mem s core (cachedForm mem cache k) .outcome) (filled (getD cache k 0)) else
+    (if isInside mem s core then Instruction (effectOf board mem s core (cachedForm board mem cache k) .outcome) (filled (getD cache k 0)) else
     FetchFault (fetchFault s core .outcome)) else
     Idle
 
--- "executed (entries of running cores), raised (those that took an exception), reused"
+-- what the run makes of it: "executed (entries of running cores), raised (those that took an exception), reused"
 abbrev pub countsAfter : Counts → Turn → Counts
 countsAfter n Idle = n
 countsAfter n (FetchFault o) = record { executed = n .executed + 1; raised = n .raised + raisedBy o; reused = n .reused }

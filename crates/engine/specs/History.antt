@@ -6,7 +6,8 @@ use lib.Dec.{eqb}
 use lib.ListN.{getD, set}
 use Rattle.bits.specs.Choice.{if_then_else_}
 use Rattle.effect.specs.declared.types.Board.{Board}
-use Rattle.engine.specs.Plain.{Plain, isRunning, isInside, fetched, formAt, plainEffect, plainStep, boardOf, start}
+use Rattle.refusal.specs.Lent.{Lent, boardOf, formAt}
+use Rattle.engine.specs.Plain.{Plain, isRunning, isInside, fetched, plainEffect, plainStep, start}
 use Rattle.engine.specs.Fast.{filled, emptied}
 
 -- cached: 1 or 0 for each memory word; reused: "counts the fetches whose word was held just before"
@@ -36,11 +37,10 @@ unfoldable pub historyFrom : Board → List ℕ → Plain → History → Histor
 historyFrom board [] p h = h
 historyFrom board (core ∷ schedule) p h = historyFrom board schedule (plainStep board p core) (historyStep board p h core)
 
-unfoldable pub history : List ℕ → List ℕ → List ℕ → List ℕ → History
-history mem s schedule cache =
-    historyFrom (boardOf s) schedule (start mem s) (record { cached = cachedAtFirst cache; reused = 0 })
+unfoldable pub history : Lent → List ℕ → History
+history l cache = historyFrom (boardOf l) (l .schedule) (start l) (record { cached = cachedAtFirst cache; reused = 0 })
 
 -- "After the fast run a held word's entry is the form of what memory now holds there, any other 0": the entries of the words from k on
-unfoldable pub entriesFrom : ℕ → List ℕ → List ℕ → List ℕ
-entriesFrom k mem [] = []
-entriesFrom k mem (c ∷ cached) = (if eqb c 0 then 0 else formAt mem k) ∷ entriesFrom (k + 1) mem cached
+unfoldable pub entriesFrom : Board → ℕ → List ℕ → List ℕ → List ℕ
+entriesFrom board k mem [] = []
+entriesFrom board k mem (c ∷ cached) = (if eqb c 0 then 0 else formAt board mem k) ∷ entriesFrom board (k + 1) mem cached

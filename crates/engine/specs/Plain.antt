@@ -5,12 +5,11 @@ use Prim.Native.Nat.{ℕ, _+_, _/_}
 use lib.Dec.{eqb, leb}
 use lib.ListN.{length}
 use Rattle.bits.specs.Choice.{if_then_else_}
-use Rattle.isa.specs.InstructionSet.{decode}
-use Rattle.memory.specs.Memory.{memoryWord}
 use Rattle.effect.specs.State.{pcAt, modeAt, running}
 use Rattle.effect.specs.declared.types.Board.{Board}
 use Rattle.effect.specs.declared.types.Effect.{Effect}
-use Rattle.semantics.specs.Commit.{wordAt, coreCount, effectOf, fetchFault, statesAfter, memoryAfter, raisedBy}
+use Rattle.semantics.specs.Commit.{wordAt, effectOf, fetchFault, statesAfter, memoryAfter, raisedBy}
+use Rattle.refusal.specs.Lent.{Lent, boardOf, formAt}
 
 -- what a run has come to
 pub record Plain : Type 0 where
@@ -31,14 +30,10 @@ isInside mem s core = leb (wordAt s core pcAt + 4) (length mem)
 abbrev pub fetched : List ℕ → ℕ → ℕ
 fetched s core = wordAt s core pcAt / 4
 
--- the form of what memory holds at word k
-unfoldable pub formAt : List ℕ → ℕ → ℕ
-formAt mem k = decode (memoryWord mem k)
-
 -- "PC outside memory is a bus error, else the word that memory then holds there is fetched, decoded and executed."
 unfoldable pub plainEffect : Board → List ℕ → List ℕ → ℕ → Effect
 plainEffect board mem s core =
-    if isInside mem s core then effectOf board mem s core (formAt mem (fetched s core)) else fetchFault s core
+    if isInside mem s core then effectOf board mem s core (formAt board mem (fetched s core)) else fetchFault s core
 
 -- a running core's entry, with the effect e: it "adds 1 to executed"; "An exception adds 1 to raised."
 unfoldable pub plainAfter : Plain → ℕ → Effect → Plain
@@ -59,14 +54,10 @@ unfoldable pub plainFrom : Board → List ℕ → Plain → Plain
 plainFrom board [] p = p
 plainFrom board (core ∷ schedule) p = plainFrom board schedule (plainStep board p core)
 
--- what every instruction of a run is given: the core count
-abbrev pub boardOf : List ℕ → Board
-boardOf s = record { cores = coreCount s }
-
 -- "its counts start at 0"
-abbrev pub start : List ℕ → List ℕ → Plain
-start mem s = record { memory = mem; states = s; executed = 0; raised = 0 }
+abbrev pub start : Lent → Plain
+start l = record { memory = l .memory; states = l .states; executed = 0; raised = 0 }
 
 -- "it takes memory, sheets and schedule"
-unfoldable pub plainRun : List ℕ → List ℕ → List ℕ → Plain
-plainRun mem s schedule = plainFrom (boardOf s) schedule (start mem s)
+unfoldable pub plainRun : Lent → Plain
+plainRun l = plainFrom (boardOf l) (l .schedule) (start l)

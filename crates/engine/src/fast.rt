@@ -1,13 +1,14 @@
 // The fast run, which keeps each word's form in the decode cache.
+ghost use Rattle.refusal.specs.Lent.{lent, left};
 ghost use Rattle.engine.specs.Answer.{FastAnswer};
 use crate::answer::Answer;
-use crate::answer::Verdict;
+use refusal::cause::Verdict;
 
 // The fast run: answers its counts, or the first rule that is broken, and then nothing lent is written.
 pub fn fast_run(memory: &mut [u8], states: &mut [u32], schedule: &[u8], cache: &mut [u64]) -> Answer
-    ensures { λ r. ⌜ FastAnswer (now (memory .entry)) (now (states .entry)) (now (schedule .entry)) (now (cache .entry)) (now (memory .exit)) (now (states .exit)) (now (cache .exit)) r ⌝ }
+    ensures { λ r. ⌜ FastAnswer (lent (now (memory .entry)) (now (states .entry)) (now (schedule .entry))) (now (cache .entry)) (left (now (memory .exit)) (now (states .exit))) (now (cache .exit)) r ⌝ }
 {
-    let verdict = crate::refusal::check_fast(memory, states, schedule, cache);
+    let verdict = refusal::check_fast(memory, states, schedule, cache);
     match verdict {
         Verdict::Accepted => Answer::Ran(crate::steps::run(memory, states, schedule, cache)),
         Verdict::Refused(cause) => Answer::Refused(cause),

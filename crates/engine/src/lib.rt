@@ -1,7 +1,6 @@
-// Both runs of the engine, and what they refuse.
+// Both runs of the engine.
 pub mod answer;
 pub mod fast;
 pub mod index;
 pub mod plain;
-pub mod refusal;
 pub mod steps;

@@ -1,13 +1,14 @@
 // The plain run, which decodes each word afresh: its decode cache is empty.
+ghost use Rattle.refusal.specs.Lent.{lent, left};
 ghost use Rattle.engine.specs.Answer.{PlainAnswer};
 use crate::answer::Answer;
-use crate::answer::Verdict;
+use refusal::cause::Verdict;
 
 // The plain run: answers its counts, or the first rule that is broken, and then nothing lent is written.
 pub fn plain_run(memory: &mut [u8], states: &mut [u32], schedule: &[u8]) -> Answer
-    ensures { λ r. ⌜ PlainAnswer (now (memory .entry)) (now (states .entry)) (now (schedule .entry)) (now (memory .exit)) (now (states .exit)) r ⌝ }
+    ensures { λ r. ⌜ PlainAnswer (lent (now (memory .entry)) (now (states .entry)) (now (schedule .entry))) (left (now (memory .exit)) (now (states .exit))) r ⌝ }
 {
-    let verdict = crate::refusal::check(memory, states, schedule);
+    let verdict = refusal::check(memory, states, schedule);
     match verdict {
         Verdict::Accepted => {
             let mut none = [0u64; 0];

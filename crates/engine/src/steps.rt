@@ -1,15 +1,17 @@
 // One loop for both runs: the entries of a schedule, with a decode cache that may be empty. A word outside the cache is decoded each time.
 ghost use mathlib.Core.Path.{_≡_};
-ghost use Prim.Native.Nat.{_+_, _*_, _/_, _%_, _^_, _≤_, _<_};
+ghost use Prim.Native.Nat.{_+_, _-_, _*_, _/_, _%_, _^_, _≤_, _<_};
 ghost use lib.Dec.{eqb};
 ghost use lib.ListN.{length, getD, set};
 ghost use Rattle.bits.specs.Choice.{if_then_else_};
-ghost use Rattle.effect.specs.State.{pcAt};
+ghost use Rattle.effect.specs.State.{stateWords, pcAt, modeAt, running};
+ghost use Rattle.effect.specs.declared.types.Board.{Board};
 ghost use Rattle.semantics.specs.Commit.{wordAt, raisedBy};
-ghost use Rattle.engine.specs.Plain.{formAt, boardOf};
-ghost use Rattle.engine.specs.Fast.{countsAfter, fastFrom};
-ghost use Rattle.engine.specs.Answer.{noCounts, AtMost};
-ghost use Rattle.engine.specs.Invariant.{fastOf, ReusedOnce, Grown, Backed, Runnable, fetchAt, cacheAfter, Stepped};
+ghost use Rattle.refusal.specs.Lent.{lent, formAt};
+ghost use Rattle.refusal.specs.Refusal.{maxSchedule};
+ghost use Rattle.engine.specs.Fast.{countsAfter};
+ghost use Rattle.engine.specs.Answer.{AtMost};
+ghost use Rattle.engine.specs.Inner.{ReusedOnce, Grown, Backed, Runnable, fetchAt, cacheAfter, Stepped, Finished};
 use crate::answer::Counts;
 use effect::state;
 use effect::types::Board;
@@ -54,7 +56,7 @@ fn put_entry(cache: &mut [u64], k: usize, entry: u64)
 // The form of word k that is executed: its entry as it stands, or, where that is empty, its word's form.
 fn form(memory: &[u8], k: usize, entry: u64) -> u64
     requires { ⌜ 4 * k + 4 ≤ length (now memory) ⌝ }
-    ensures { λ r. ⌜ r ≡ (if eqb entry 0 then formAt (now (memory .entry)) k else entry) ⌝ }
+    ensures { λ r. ⌜ ((board : Board) → r ≡ (if eqb entry 0 then formAt board (now (memory .entry)) k else entry)) ⌝ }
 {
     if entry != 0 {
         return entry;
@@ -66,7 +68,7 @@ fn form(memory: &[u8], k: usize, entry: u64) -> u64
 fn fetch(memory: &[u8], cache: &mut [u64], pc: usize) -> Fetched
     requires { ⌜ Backed (now cache) (now memory) ⌝ }
     requires { ⌜ (pc % 4 ≡ 0) × (pc < 2 ^ 32) ⌝ }
-    ensures { λ r. ⌜ (r ≡ fetchAt (now (memory .entry)) (now (cache .entry)) pc) × (now (cache .exit) ≡ cacheAfter (now (memory .entry)) (now (cache .entry)) pc) ⌝ }
+    ensures { λ r. ⌜ ((board : Board) → (r ≡ fetchAt board (now (memory .entry)) (now (cache .entry)) pc) × (now (cache .exit) ≡ cacheAfter board (now (memory .entry)) (now (cache .entry)) pc)) ⌝ }
 {
     let k = pc / 4;
     let old = entry_of(cache, k);
@@ -108,7 +110,7 @@ fn raised_by(outcome: Outcome) -> u32
 
 // The counts after one more entry of the schedule.
 fn counted(counts: Counts, turn: Turn) -> Counts
-    requires { ⌜ AtMost 65535 counts ⌝ }
+    requires { ⌜ AtMost (maxSchedule - 1) counts ⌝ }
     requires { ⌜ ReusedOnce turn ⌝ }
     ensures { λ r. ⌜ (r ≡ countsAfter counts turn) × Grown counts r ⌝ }
 {
@@ -127,24 +129,22 @@ fn counted(counts: Counts, turn: Turn) -> Counts
     }
 }
 
-// One entry of the schedule: how it ends. A filled entry of the cache is executed as it stands, whatever word memory holds there.
-pub fn step(
+// One instruction of a running core: how it ends. A filled entry of the cache is executed as it stands, whatever word memory holds there.
+fn instruction(
     board: Board,
     memory: &mut [u8],
     states: &mut [u32],
     cache: &mut [u64],
     core: usize,
 ) -> Turn
-    requires { ⌜ core * 42 + 42 ≤ length (now states) ⌝ }
+    requires { ⌜ core * stateWords + stateWords ≤ length (now states) ⌝ }
     requires { ⌜ core < 4 ⌝ }
+    requires { ⌜ wordAt (now states) core modeAt ≡ running ⌝ }
     requires { ⌜ Backed (now cache) (now memory) ⌝ }
     requires { ⌜ wordAt (now states) core pcAt % 4 ≡ 0 ⌝ }
     ensures { λ r. ⌜ Stepped board (now (memory .entry)) (now (states .entry)) (now (cache .entry)) core (now (memory .exit)) (now (states .exit)) (now (cache .exit)) r ⌝ }
 {
     let base = core * state::STATE_WORDS;
-    if states[base + state::MODE] != state::RUNNING {
-        return Turn::Idle;
-    }
     let pc = crate::index::of_u32(states[base + state::PC]);
     let f = fetch(memory, cache, pc);
     if f.entry == 0 {
@@ -156,10 +156,30 @@ pub fn step(
     Turn::Instruction(outcome, f.reused)
 }
 
+// One entry of the schedule.
+pub fn step(
+    board: Board,
+    memory: &mut [u8],
+    states: &mut [u32],
+    cache: &mut [u64],
+    core: usize,
+) -> Turn
+    requires { ⌜ core * stateWords + stateWords ≤ length (now states) ⌝ }
+    requires { ⌜ core < 4 ⌝ }
+    requires { ⌜ Backed (now cache) (now memory) ⌝ }
+    requires { ⌜ wordAt (now states) core pcAt % 4 ≡ 0 ⌝ }
+    ensures { λ r. ⌜ Stepped board (now (memory .entry)) (now (states .entry)) (now (cache .entry)) core (now (memory .exit)) (now (states .exit)) (now (cache .exit)) r ⌝ }
+{
+    if states[core * state::STATE_WORDS + state::MODE] != state::RUNNING {
+        return Turn::Idle;
+    }
+    instruction(board, memory, states, cache, core)
+}
+
 // The schedule's entries, in order. Both runs share this loop: exec::execute has one caller, so the compiler inlines it there.
 pub fn run(memory: &mut [u8], states: &mut [u32], schedule: &[u8], cache: &mut [u64]) -> Counts
-    requires { ⌜ Runnable (now memory) (now states) (now schedule) (now cache) ⌝ }
-    ensures { λ r. ⌜ (fastOf (now (memory .exit)) (now (states .exit)) (now (cache .exit)) r ≡ fastFrom (boardOf (now (states .entry))) (now (schedule .entry)) (fastOf (now (memory .entry)) (now (states .entry)) (now (cache .entry)) noCounts)) × AtMost 65536 r ⌝ }
+    requires { ⌜ Runnable (lent (now memory) (now states) (now schedule)) (now cache) ⌝ }
+    ensures { λ r. ⌜ Finished (lent (now (memory .entry)) (now (states .entry)) (now (schedule .entry))) (now (cache .entry)) (now (memory .exit)) (now (states .exit)) (now (cache .exit)) r ⌝ }
 {
     let cores = states.len() / state::STATE_WORDS;
     let board = Board {

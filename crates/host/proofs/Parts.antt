@@ -2,6 +2,7 @@
 use mathlib.Core.Path.{_≡_, refl}
 use Prim.Native.Nat.{ℕ, _+_, _*_, _/_, _%_, _^_, _<_}
 use native.Mathlib.Omega.{arith}
+use Rattle.refusal.specs.Refusal.{maxSchedule}
 use Rattle.engine.specs.Answer.{number, countsOf, packedAnswer, AtMost}
 use Rattle.engine.specs.declared.answer.Answer.{Answer}
 use Rattle.host.specs.Interface.{Packs}
@@ -24,7 +25,7 @@ module _ (w z y x : ℕ) (k : z < 2 ^ 20) (l : y < 2 ^ 20) (m : x < 2 ^ 20) wher
   packed-first : (w * 2 ^ 60 + z * 2 ^ 40 + y * 2 ^ 20 + x) % 2 ^ 20 ≡ x
   packed-first = omega arith
 
-pub packs : (a : Answer) (r : ℕ) → AtMost 65536 (countsOf a) → r ≡ packedAnswer a → Packs a r
+pub packs : (a : Answer) (r : ℕ) → AtMost maxSchedule (countsOf a) → r ≡ packedAnswer a → Packs a r
 packs a r h e =
     let w = number a in
     let z = countsOf a .reused in

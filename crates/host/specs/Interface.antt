@@ -4,6 +4,7 @@ use mathlib.Core.Path.{_≡_}
 use Prim.Native.Nat.{ℕ, _/_, _%_, _^_, _<_, _≤_}
 use Rattle.isa.specs.InstructionSet.{decode}
 use Rattle.isa.specs.Encoding.{encode, number}
+use Rattle.refusal.specs.Lent.{Lent, Left}
 use Rattle.engine.specs.Answer.{number as refusalIn, countsOf, packedAnswer, PlainAnswer, FastAnswer}
 use Rattle.engine.specs.declared.answer.Counts.{Counts}
 use Rattle.engine.specs.declared.answer.Answer.{Answer}
@@ -33,15 +34,15 @@ pub record Packs (answer : Answer) (r : ℕ) : Type 0 where
   pub refusal : unpackedRefusal r ≡ refusalIn answer
   pub counts : unpackedCounts r ≡ countsOf answer
 
--- What or1k_plain_run promises of its number r and of what it leaves of memory and states: all that the plain run promises of its answer (crate engine,
+-- What or1k_plain_run promises of its number r and of what it leaves: all that the plain run promises of its answer (crate engine,
 -- PlainAnswer), which r packs. The answer's refusal and counts are r's four parts, so r and every lent byte are settled, refused or not.
-pub record PlainRun (mem s schedule mem′ s′ : List ℕ) (r : ℕ) : Type 0 where
+pub record PlainRun (l : Lent) (x : Left) (r : ℕ) : Type 0 where
   pub answer : Answer
   pub packs : Packs answer r
-  pub promise : PlainAnswer mem s schedule mem′ s′ answer
+  pub promise : PlainAnswer l x answer
 
 -- the same of or1k_fast_run (crate engine, FastAnswer)
-pub record FastRun (mem s schedule cache mem′ s′ cache′ : List ℕ) (r : ℕ) : Type 0 where
+pub record FastRun (l : Lent) (cache : List ℕ) (x : Left) (cache′ : List ℕ) (r : ℕ) : Type 0 where
   pub answer : Answer
   pub packs : Packs answer r
-  pub promise : FastAnswer mem s schedule cache mem′ s′ cache′ answer
+  pub promise : FastAnswer l cache x cache′ answer

@@ -2,6 +2,7 @@
 ghost use mathlib.Core.Path.{_≡_};
 ghost use Rattle.isa.specs.InstructionSet.{decode};
 ghost use Rattle.isa.specs.Encoding.{number as numberOf};
+ghost use Rattle.refusal.specs.Lent.{lent, left};
 ghost use Rattle.host.specs.Interface.{Answers, PlainRun, FastRun};
 use isa::encoder::Encoded;
 
@@ -34,7 +35,7 @@ pub extern "C" fn or1k_encode(entry: u64) -> u64
 
 #[no_mangle]
 pub extern "C" fn or1k_plain_run(memory: &mut [u8], states: &mut [u32], schedule: &[u8]) -> u64
-    ensures { λ r. ⌜ PlainRun (now (memory .entry)) (now (states .entry)) (now (schedule .entry)) (now (memory .exit)) (now (states .exit)) r ⌝ }
+    ensures { λ r. ⌜ PlainRun (lent (now (memory .entry)) (now (states .entry)) (now (schedule .entry))) (left (now (memory .exit)) (now (states .exit))) r ⌝ }
 {
     engine::answer::pack(engine::plain::plain_run(memory, states, schedule))
 }
@@ -46,7 +47,7 @@ pub extern "C" fn or1k_fast_run(
     schedule: &[u8],
     cache: &mut [u64],
 ) -> u64
-    ensures { λ r. ⌜ FastRun (now (memory .entry)) (now (states .entry)) (now (schedule .entry)) (now (cache .entry)) (now (memory .exit)) (now (states .exit)) (now (cache .exit)) r ⌝ }
+    ensures { λ r. ⌜ FastRun (lent (now (memory .entry)) (now (states .entry)) (now (schedule .entry))) (now (cache .entry)) (left (now (memory .exit)) (now (states .exit))) (now (cache .exit)) r ⌝ }
 {
     engine::answer::pack(engine::fast::fast_run(memory, states, schedule, cache))
 }

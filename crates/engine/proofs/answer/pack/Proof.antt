@@ -1,5 +1,6 @@
 use mathlib.Core.Path.{subst}
 use native.Mathlib.Omega.{arith}
+use Rattle.refusal.specs.Refusal.{maxSchedule}
 use Rattle.engine.specs.Answer.{countsOf, AtMost}
 use Rattle.engine.specs.declared.answer.Answer.{Answer}
 use borrow.Author.Needs.{needs}
@@ -14,7 +15,7 @@ cast-result c = search needs
 
 mul-result : tie.Need-mul-result
 mul-result c =
-    let a = subst (λ (r : Answer). AtMost 65536 (countsOf r)) (c .before .before .answer .given .1) (c .before .before .before .before .pre) in
+    let a = subst (λ (r : Answer). AtMost maxSchedule (countsOf r)) (c .before .before .answer .given .1) (c .before .before .before .before .pre) in
     omega arith
 
 cast-result-2 : tie.Need-cast-result-2
@@ -22,12 +23,12 @@ cast-result-2 c = search needs
 
 mul-result-2 : tie.Need-mul-result-2
 mul-result-2 c =
-    let a = subst (λ (r : Answer). AtMost 65536 (countsOf r)) (c .before .before .before .answer .given .1) (c .before .before .before .before .before .pre) in
+    let a = subst (λ (r : Answer). AtMost maxSchedule (countsOf r)) (c .before .before .before .answer .given .1) (c .before .before .before .before .before .pre) in
     omega arith
 
 add-result : tie.Need-add-result
 add-result c =
-    let a = subst (λ (r : Answer). AtMost 65536 (countsOf r)) (c .before .before .before .answer .given .1) (c .before .before .before .before .before .pre) in
+    let a = subst (λ (r : Answer). AtMost maxSchedule (countsOf r)) (c .before .before .before .answer .given .1) (c .before .before .before .before .before .pre) in
     omega arith
 
 cast-result-3 : tie.Need-cast-result-3
@@ -35,7 +36,7 @@ cast-result-3 c = search needs
 
 add-result-2 : tie.Need-add-result-2
 add-result-2 c =
-    let a = subst (λ (r : Answer). AtMost 65536 (countsOf r)) (c .before .before .before .before .answer .given .1) (c .before .before .before .before .before .before .pre) in
+    let a = subst (λ (r : Answer). AtMost maxSchedule (countsOf r)) (c .before .before .before .before .answer .given .1) (c .before .before .before .before .before .before .pre) in
     omega arith
 
 enum-known-answer-2 : tie.Need-enum-known-answer-2

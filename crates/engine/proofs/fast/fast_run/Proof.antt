@@ -1,7 +1,8 @@
 use mathlib.Core.Path.{sym, ap, _∙_}
 use denote.Ref.{now}
-use Rattle.engine.specs.Refusal.{verdictNumber}
-use Rattle.engine.proofs.Refusals.{fast-runnable, fast-ran, fast-refused}
+use Rattle.refusal.specs.Lent.{lent}
+use Rattle.refusal.specs.Refusal.{verdictNumber}
+use Rattle.engine.proofs.Answers.{fast-runnable, fast-ran, fast-refused}
 use borrow.Author.Needs.{needs}
 use Rattle.engine.proofs.fast.fast_run.Statement.{statement}
 use Rattle.engine.proofs.fast.fast_run.Tie as tie
@@ -15,7 +16,8 @@ enum-told c = search needs
 run-requires : tie.Need-run-requires
 run-requires c κs =
     let a = c .before .before .before .before .before .before .before .before .before .before .before .before .before .args in
-    fast-runnable (now (a .memory)) (now (a .states)) (now (a .schedule)) (now (a .cache)) (sym (c .before .before .before .before .before .check-fast .ensures) ∙ ap verdictNumber (c .before .before .before .enum-told .given .1))
+    let accepted = sym (c .before .before .before .before .before .check-fast .ensures) ∙ ap verdictNumber (c .before .before .before .enum-told .given .1) in
+    fast-runnable (lent (now (a .memory)) (now (a .states)) (now (a .schedule))) (now (a .cache)) accepted
 
 enum-known-verdict : tie.Need-enum-known-verdict
 enum-known-verdict c = search needs
@@ -33,7 +35,9 @@ returns : tie.Need-returns
 returns c =
     let a = c .before .before .before .before .before .before .before .before .before .before .before .before .before .before .before .before .before .before .before .before .args in
     let run = c .before .before .before .before .before .before .run in
-    fast-ran (now (a .memory)) (now (a .states)) (now (a .schedule)) (now (a .cache)) _ _ _ _ (sym (c .before .before .before .before .before .before .before .before .before .before .before .before .check-fast .ensures) ∙ ap verdictNumber (c .before .before .before .before .before .before .before .before .before .before .enum-told .given .1)) (run .ensures .0) (run .ensures .1) (run .kept .0) (run .kept .1 .0) (run .kept .1 .1 .1 .0)
+    let accepted = sym (c .before .before .before .before .before .before .before .before .before .before .before .before .check-fast .ensures) ∙ ap verdictNumber (c .before .before .before .before .before .before .before .before .before .before .enum-told .given .1) in
+    fast-ran (lent (now (a .memory)) (now (a .states)) (now (a .schedule))) (now (a .cache)) _ _ _ _ accepted (run .ensures)
+    (run .kept .0) (run .kept .1 .0) (run .kept .1 .1 .1 .0)
 
 same-length-4 : tie.Need-same-length-4
 same-length-4 c = search needs
@@ -47,7 +51,8 @@ same-length-6 c = search needs
 returns-2 : tie.Need-returns-2
 returns-2 c =
     let a = c .before .before .before .before .before .before .before .before .before .before .before .args in
-    fast-refused (now (a .memory)) (now (a .states)) (now (a .schedule)) (now (a .cache)) _ (ap verdictNumber (sym (c .before .verdict .given .1)) ∙ c .before .before .before .check-fast .ensures)
+    let number = ap verdictNumber (sym (c .before .verdict .given .1)) ∙ c .before .before .before .check-fast .ensures in
+    fast-refused (lent (now (a .memory)) (now (a .states)) (now (a .schedule))) (now (a .cache)) _ number
 
 pub fast-run-spec : {M : Type 1} → statement M
 fast-run-spec =

@@ -1,7 +1,8 @@
 use mathlib.Core.Path.{sym, ap, _∙_}
 use denote.Ref.{now}
-use Rattle.engine.specs.Refusal.{verdictNumber}
-use Rattle.engine.proofs.Refusals.{plain-runnable, plain-ran, plain-refused}
+use Rattle.refusal.specs.Lent.{lent}
+use Rattle.refusal.specs.Refusal.{verdictNumber}
+use Rattle.engine.proofs.Answers.{plain-runnable, plain-ran, plain-refused}
 use borrow.Author.Needs.{needs}
 use Rattle.engine.proofs.plain.plain_run.Statement.{statement}
 use Rattle.engine.proofs.plain.plain_run.Tie as tie
@@ -18,7 +19,8 @@ slice-aggregate-run c = search needs
 run-requires : tie.Need-run-requires
 run-requires c κs =
     let a = c .before .before .before .before .before .before .before .before .before .before .before .args in
-    plain-runnable (now (a .memory)) (now (a .states)) (now (a .schedule)) (sym (c .before .before .before .before .before .check .ensures) ∙ ap verdictNumber (c .before .before .before .enum-told .given .1))
+    let accepted = sym (c .before .before .before .before .before .check .ensures) ∙ ap verdictNumber (c .before .before .before .enum-told .given .1) in
+    plain-runnable (lent (now (a .memory)) (now (a .states)) (now (a .schedule))) accepted
 
 enum-known-verdict : tie.Need-enum-known-verdict
 enum-known-verdict c = search needs
@@ -33,7 +35,8 @@ returns : tie.Need-returns
 returns c =
     let a = c .before .before .before .before .before .before .before .before .before .before .before .before .before .before .before .before .before .args in
     let run = c .before .before .before .before .before .run in
-    plain-ran (now (a .memory)) (now (a .states)) (now (a .schedule)) _ _ _ _ (sym (c .before .before .before .before .before .before .before .before .before .before .before .check .ensures) ∙ ap verdictNumber (c .before .before .before .before .before .before .before .before .before .enum-told .given .1)) (run .ensures .0) (run .ensures .1)
+    let accepted = sym (c .before .before .before .before .before .before .before .before .before .before .before .check .ensures) ∙ ap verdictNumber (c .before .before .before .before .before .before .before .before .before .enum-told .given .1) in
+    plain-ran (lent (now (a .memory)) (now (a .states)) (now (a .schedule))) _ _ _ _ accepted (run .ensures)
 
 same-length-3 : tie.Need-same-length-3
 same-length-3 c = search needs
@@ -44,7 +47,7 @@ same-length-4 c = search needs
 returns-2 : tie.Need-returns-2
 returns-2 c =
     let a = c .before .before .before .before .before .before .before .before .before .args in
-    plain-refused (now (a .memory)) (now (a .states)) (now (a .schedule)) _ (ap verdictNumber (sym (c .before .verdict .given .1)) ∙ c .before .before .before .check .ensures)
+    plain-refused (lent (now (a .memory)) (now (a .states)) (now (a .schedule))) _ (ap verdictNumber (sym (c .before .verdict .given .1)) ∙ c .before .before .before .check .ensures)
 
 pub plain-run-spec : {M : Type 1} → statement M
 plain-run-spec =

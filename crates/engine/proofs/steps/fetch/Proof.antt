@@ -15,7 +15,7 @@ form-requires : tie.Need-form-requires
 form-requires c κs =
     let a = c .before .before .before .before .before .args in
     let p = c .before .before .before .before .before .pre in
-    let inside = filled-is-inside (now (a .memory)) (now (a .cache)) (a .pc) (p .0) (p .1 .0) (λ z. c .if1 .taken (c .before .entry-of .ensures ∙ z)) in
+    let inside = filled-is-inside (record { cores = 0 }) (now (a .memory)) (now (a .cache)) (a .pc) (p .0) (p .1 .0) (λ z. c .if1 .taken (c .before .entry-of .ensures ∙ z)) in
     omega (arith, inside)
 
 same-length : tie.Need-same-length
@@ -27,10 +27,11 @@ returns c =
     let p = c .before .before .before .before .before .before .pre in
     let q = c .before .before .entry-of .ensures in
     let n = c .before .if1 .taken in
-    let inside = filled-is-inside (now (a .memory)) (now (a .cache)) (a .pc) (p .0) (p .1 .0) (λ z. n (q ∙ z)) in
-    at-inside (now (a .memory)) (now (a .cache)) (a .pc) inside
-    (form-fetched (now (a .memory)) (now (a .cache)) (a .pc / 4) q (c .form .ensures) (filled-found (now (a .memory)) (now (a .cache)) (a .pc / 4) q n))
-    (filled-kept (now (a .memory)) (now (a .cache)) (a .pc / 4) q n)
+    λ board.
+    let inside = filled-is-inside board (now (a .memory)) (now (a .cache)) (a .pc) (p .0) (p .1 .0) (λ z. n (q ∙ z)) in
+    at-inside board (now (a .memory)) (now (a .cache)) (a .pc) inside
+    (form-fetched board (now (a .memory)) (now (a .cache)) (a .pc / 4) q (c .form .ensures board) (filled-found board (now (a .memory)) (now (a .cache)) (a .pc / 4) q n))
+    (filled-kept board (now (a .memory)) (now (a .cache)) (a .pc / 4) q n)
 
 add-if2 : tie.Need-add-if2
 add-if2 c = search needs
@@ -39,7 +40,7 @@ same-length-2 : tie.Need-same-length-2
 same-length-2 c = search needs
 
 returns-2 : tie.Need-returns-2
-returns-2 c = let a = c .before .before .before .before .before .before .args in at-outside (now (a .memory)) (now (a .cache)) (a .pc) (c .if2 .taken)
+returns-2 c = let a = c .before .before .before .before .before .before .args in λ board. at-outside board (now (a .memory)) (now (a .cache)) (a .pc) (c .if2 .taken)
 
 form-requires-2 : tie.Need-form-requires-2
 form-requires-2 c κs = search needs
@@ -55,10 +56,11 @@ returns-3 c =
     let a = c .before .before .before .before .before .before .before .before .before .before .before .args in
     let q = c .before .before .before .before .before .before .before .entry-of .ensures in
     let z = c .before .before .before .before .before .before .if1 .left in
-    let e = c .before .before .before .before .form2 .ensures in
-    at-inside (now (a .memory)) (now (a .cache)) (a .pc) (omega (arith, c .before .before .before .before .before .if2 .left))
-    (form-fetched (now (a .memory)) (now (a .cache)) (a .pc / 4) q e (empty-found (now (a .memory)) (now (a .cache)) (a .pc / 4) q z))
-    (c .before .before .put-entry .ensures ∙ ap (set (now (a .cache)) (a .pc / 4)) (form-executed (now (a .memory)) (now (a .cache)) (a .pc / 4) q e))
+    λ board.
+    let e = c .before .before .before .before .form2 .ensures board in
+    at-inside board (now (a .memory)) (now (a .cache)) (a .pc) (omega (arith, c .before .before .before .before .before .if2 .left))
+    (form-fetched board (now (a .memory)) (now (a .cache)) (a .pc / 4) q e (empty-found board (now (a .memory)) (now (a .cache)) (a .pc / 4) q z))
+    (c .before .before .put-entry .ensures ∙ ap (set (now (a .cache)) (a .pc / 4)) (form-executed board (now (a .memory)) (now (a .cache)) (a .pc / 4) q e))
 
 pub fetch-spec : {M : Type 1} → statement M
 fetch-spec =

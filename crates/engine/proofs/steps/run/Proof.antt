@@ -4,10 +4,10 @@ use native.Mathlib.Omega.{arith}
 use lib.ListN.{length, drop}
 use Rattle.semantics.specs.Commit.{coreCount}
 use Rattle.lawful.specs.Accepted.{AllAccepted}
-use Rattle.engine.specs.Plain.{boardOf}
+use Rattle.refusal.specs.Lent.{lent, boardOf}
 use Rattle.engine.specs.Fast.{fastStep, fastFrom}
 use Rattle.engine.specs.Answer.{noCounts, AtMost}
-use Rattle.engine.specs.Invariant.{fastOf, ReusedOnce, Right}
+use Rattle.engine.specs.Inner.{fastOf, ReusedOnce, Right}
 use Rattle.engine.proofs.Cases.{turn-once, grown}
 use Rattle.engine.proofs.Schedule.{from-next, from-end, step-kept}
 use borrow.Author.Needs.{needs}
@@ -16,7 +16,15 @@ use Rattle.engine.proofs.steps.run.Tie as tie
 
 abbrev Inv-loop : tie.InvT-loop
 Inv-loop memory₀ states₀ schedule cache₀ cores board counts₀ i₀ memory states cache counts i =
-    (fastFrom (boardOf states₀) (drop i schedule) (fastOf memory states cache counts) ≡ fastFrom (boardOf states₀) schedule (fastOf memory₀ states₀ cache₀ noCounts)) × AtMost i counts × (i ≤ length schedule) × (length memory ≡ length memory₀) × (length states ≡ length states₀) × (length cache ≡ length cache₀) × AllAccepted states × Right cache memory
+    let board = boardOf (lent memory₀ states₀ schedule) in
+    (fastFrom board (drop i schedule) (fastOf memory states cache counts) ≡ fastFrom board schedule (fastOf memory₀ states₀ cache₀ noCounts))
+    × AtMost i counts
+    × (i ≤ length schedule)
+    × (length memory ≡ length memory₀)
+    × (length states ≡ length states₀)
+    × (length cache ≡ length cache₀)
+    × AllAccepted board states
+    × Right board cache memory
 
 abbrev μ-loop : tie.MeasureT-loop
 μ-loop memory₀ states₀ schedule cache₀ cores board counts₀ i₀ memory states cache counts i = length schedule - i
@@ -26,7 +34,8 @@ cast-t12 c = search needs
 
 loop-holds : tie.Need-loop-holds Inv-loop μ-loop
 loop-holds c =
-    (refl, record { executed-le = omega arith; raised-le = omega arith; reused-le = omega arith }, omega arith, refl, refl, refl, c .before .before .before .before .pre .accepted, c .before .before .before .before .pre .right)
+    let p = c .before .before .before .before .pre in
+    (refl, record { executed-le = omega arith; raised-le = omega arith; reused-le = omega arith }, omega arith, refl, refl, refl, p .accepted, p .right)
 
 shared-slice-read-of-u8 : tie.Need-shared-slice-read-of-u8 Inv-loop μ-loop
 shared-slice-read-of-u8 c = search needs
@@ -90,10 +99,11 @@ same-length-3 c = c .before .loop .inv .5
 
 returns : tie.Need-returns Inv-loop μ-loop
 returns c =
-    let l = c .before .loop in (
-      sym (from-end _ _ (l .i) _ (c .loop-test .left)) ∙ l .inv .0,
-      record { executed-le = omega arith; raised-le = omega arith; reused-le = omega arith },
-    )
+    let l = c .before .loop in
+    record {
+      left = sym (from-end _ _ (l .i) _ (c .loop-test .left)) ∙ l .inv .0;
+      small = record { executed-le = omega arith; raised-le = omega arith; reused-le = omega arith };
+    }
 
 pub run-spec : {M : Type 1} → statement M
 run-spec =

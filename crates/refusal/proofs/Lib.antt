@@ -1,0 +1,3 @@
+-- Tests: rules and tests over lists. Passes: what is not refused, by name.
+pub mod Tests
+pub mod Passes

@@ -1,0 +1,24 @@
+use borrow.Author.Tests.{eq-eqb, ne-eqb}
+use Rattle.refusal.specs.Lent.{formAt}
+use borrow.Author.Needs.{needs}
+use Rattle.refusal.proofs.cache.entry_right.Statement.{statement}
+use Rattle.refusal.proofs.cache.entry_right.Tie as tie
+
+returns : tie.Need-returns
+returns c = λ board. simp (eq-eqb _ _ (c .if1 .taken))
+
+mul-load-word : tie.Need-mul-load-word
+mul-load-word c = search needs
+
+load-word-requires : tie.Need-load-word-requires
+load-word-requires c κs = search needs
+
+decode-requires : tie.Need-decode-requires
+decode-requires c κs = search needs
+
+returns-2 : tie.Need-returns-2
+unfolding formAt
+returns-2 c = λ board. simp (ne-eqb _ _ (c .before .before .if1 .left), c .decode .ensures, c .before .load-word .ensures .0)
+
+pub entry-right-spec : {M : Type 1} → statement M
+entry-right-spec = tie.close (tie.spec returns mul-load-word load-word-requires decode-requires returns-2)
