@@ -12,15 +12,14 @@ use lib.Seq.{length-take-le}
 use Rattle.bits.specs.Choice.{if_then_else_}
 use Rattle.text.specs.Ascii.{ascii}
 use Rattle.text.specs.Digits.{digit}
-use Rattle.text.specs.Numbers.{decimal, hexadecimal}
 use Rattle.text.specs.Lines.{Line, lines}
-use Rattle.text.specs.Places.{lineEnd, afterLines}
+use Rattle.text.specs.Inner.{lineEnd, afterLines}
 use Rattle.text.specs.declared.Parsed.{Parsed}
 use Rattle.text.specs.declared.Parsed.the-variants.{Number, Nothing}
 use Rattle.text.proofs.Laws.{textAt}
-use Rattle.card.specs.Card.{Field, value, fault, limited, cores, memory, entryAddress, steps, schedule, wordCount, word, every, digitsBelow, Step, step, stop, first, onward, line, wordLines, noneLeft, content, cardSays, Left, Verdict, good, refused, Job, formFault, valueFault, maxCard, maxWord, maxCores, minMemory, maxMemory, maxSteps, maxDigits}
-use Rattle.card.specs.Answer.{placed, answered, more, wordsFrom, job, jobAt, Bounds}
-use Rattle.card.specs.Places.{left}
+use Rattle.card.specs.Card.{Field, value, fault, limited, cores, memory, steps, schedule, word, every, digitsBelow, Step, step, stop, first, onward, line, wordLines, noneLeft, content, cardSays, Left, Verdict, good, refused, Job, formFault, valueFault, maxCard, maxWord, maxCores, minMemory, maxMemory, maxSteps, maxDigits}
+use Rattle.card.specs.Answer.{headerLines, beforeSchedule, placed, answered, more, wordsFrom, job, jobAt, Sound, Bounds}
+use Rattle.card.specs.Inner.{parsedBy, left}
 use Rattle.card.specs.declared.Job as code
 use Rattle.card.proofs.Whole.{by-place}
 
@@ -30,11 +29,13 @@ never e = absurd (let z : _≡_ {A = ℕ} 0 1 = cc in omega arith)
 no-value : {A B : Type 0} {f : ℕ} {v : B} → fault f ≡ value v → A
 no-value e = absurd (let z : _≡_ {A = ℕ} 0 1 = cc in omega arith)
 
--- a good card's line has a text that means a value, and what follows is good
-by-line : {A P : Type 0} (key : String) (f : List ℕ → Field A) (card : List ℕ) (at n : ℕ) (k : A → Left → Verdict Job) {j : Job} → line key f (left card at n) k ≡ good j
-    → ((v : A) → f (textAt (ascii key) card at) ≡ value v → at + length (ascii key) ≤ lineEnd card at → lineEnd card at < length card → k v (left card (lineEnd card at + 1) (n + 1)) ≡ good j → P)
+-- the line after i others of a good card has a text that means a value, and what follows is good
+by-line : {A P : Type 0} (key : String) (f : List ℕ → Field A) (card : List ℕ) (i : ℕ) (k : A → Left → Verdict Job) {j : Job}
+    → line key f (left card (afterLines card i) (suc i)) k ≡ good j
+    → ((v : A) → f (textAt (ascii key) card (afterLines card i)) ≡ value v → afterLines card i + length (ascii key) ≤ lineEnd card (afterLines card i)
+    → lineEnd card (afterLines card i) < length card → k v (left card (lineEnd card (afterLines card i) + 1) (suc i + 1)) ≡ good j → P)
     → P
-by-line {P = P} key f card at n k {j} e go = by-place (λ s. onward n s k ≡ good j → P) (ascii key) f card at (λ m e. never e) go e
+by-line {P = P} key f card i k {j} e go = by-place (λ s. onward (suc i) s k ≡ good j → P) (ascii key) f card (afterLines card i) (λ m e. never e) go e
 
 record Within (low high m v : ℕ) : Type 0 where
   above : low ≤ v
@@ -54,6 +55,14 @@ limited-tests low high m v w false b c p q r e = no-value e
 limited-value : (low high m : ℕ) (p : Parsed) {w : ℕ} → limited low high m p ≡ value w → Within low high m w
 limited-value low high m (Number v) {w} e = limited-tests low high m v w (leb low v) (leb v high) (eqb (v % m) 0) refl refl refl e
 limited-value low high m Nothing e = no-value e
+
+-- a line with a number
+by-number : {P : Type 0} (key : String) (hex : Bool) (low high m : ℕ) (card : List ℕ) (i : ℕ) (k : ℕ → Left → Verdict Job) {j : Job}
+    → line key (λ t. limited low high m (parsedBy hex t)) (left card (afterLines card i) (suc i)) k ≡ good j
+    → ((v : ℕ) → Within low high m v → k v (left card (lineEnd card (afterLines card i) + 1) (suc i + 1)) ≡ good j → P) → P
+by-number key hex low high m card i k e go =
+    let text = parsedBy hex (textAt (ascii key) card (afterLines card i)) in
+    by-line key (λ t. limited low high m (parsedBy hex t)) card i k e (λ v s _ _ e. go v (limited-value low high m text s) e)
 
 digits-below : (n : ℕ) (t : List ℕ) → digitsBelow n t ≡ every (λ d. ltb d n) (map digit t)
 digits-below n [] = refl
@@ -83,7 +92,8 @@ schedule-value n t {s} e = schedule-tests n t s (leb 1 (length t)) (leb (length 
 
 -- the w lines of a good card are as many as it says, and stand where they are looked for
 by-word : {P : Type 0} (n m : ℕ) (s : Step ℕ) (k : List ℕ → Left → Verdict Job) {j : Job} → onward m s (λ w l. wordLines n l (λ ws. k (w ∷ ws))) ≡ good j
-    → ((l : Left) (k : List ℕ → Left → Verdict Job) → wordLines n l k ≡ good j → ((ws : List ℕ) (r : Left) → length ws ≡ n → wordsFrom n (l .rest) ≡ ws → k ws r ≡ good j → P) → P)
+    → ((l : Left) (k : List ℕ → Left → Verdict Job) → wordLines n l k ≡ good j
+    → ((ws : List ℕ) (r : Left) → length ws ≡ n → wordsFrom n (l .rest) ≡ ws → k ws r ≡ good j → P) → P)
     → ((ws : List ℕ) (r : Left) → length ws ≡ suc n → more s (wordsFrom n) ≡ ws → k ws r ≡ good j → P) → P
 by-word n m (step w ls) k e ih go = ih (record { next = m + 1; rest = ls }) (λ ws. k (w ∷ ws)) e (λ ws r h f. go (w ∷ ws) r (ap suc h) (ap (λ ws. w ∷ ws) f))
 by-word n m (stop f) k e ih go = never e
@@ -97,20 +107,6 @@ by-words (suc n) l k e go = by-word n (l .next) (first (ascii "w=") word (l .res
 none-good : (ls : List Line) (n : ℕ) {v : Verdict Job} {j : Job} → noneLeft ls n v ≡ good j → v ≡ good j
 none-good [] n e = e
 none-good (l ∷ ls) n e = never e
-
--- a good job, by its own lists
-pub record Sound (j : Job) : Type 0 where
-  pub cores-low : 1 ≤ j .cores
-  pub cores-high : j .cores ≤ maxCores
-  pub memory-low : minMemory ≤ j .memory
-  pub memory-high : j .memory ≤ maxMemory
-  pub memory-multiple : j .memory % 4 ≡ 0
-  pub entry-multiple : j .entry % 4 ≡ 0
-  pub steps-high : j .steps ≤ maxSteps
-  pub digits-low : 1 ≤ length (j .schedule)
-  pub digits-high : length (j .schedule) ≤ maxDigits
-  pub cores-named : T (every (λ d. ltb d (j .cores)) (j .schedule))
-  pub words-high : length (j .words) ≤ j .memory / 4
 
 -- a card's job: its own lists keep to the limits, and they stand at its places
 record Read (card : List ℕ) (j : Job) : Type 0 where
@@ -126,30 +122,22 @@ text-digits key card at n {s} h g d =
     ap length (sym (d .said)) ∙ length-map (textAt key card at) digit ∙ length-take-le (lineEnd card at - (at + length key)) (drop (at + length key) card) (simp length-drop (omega arith)) in
     (m, ap (λ i. map digit (take i (drop (at + length key) card))) m ∙ d .said)
 
--- the text after a key, on the line after n others
-abbrev on : List ℕ → String → ℕ → List ℕ
-on card key n = textAt (ascii key) card (afterLines card n)
-
 content-read : (card : List ℕ) (j : Job) → content (left card 0 1) ≡ good j → Read card j
 unfolding content afterLines
 content-read card j e =
-    by-line "cores=" cores card (afterLines card 0) 1 _ e (λ a ea _ _ e.
-    by-line "memory=" memory card (afterLines card 1) 2 _ e (λ b eb _ _ e.
-    by-line "entry=" entryAddress card (afterLines card 2) 3 _ e (λ c ec _ _ e.
-    by-line "steps=" steps card (afterLines card 3) 4 _ e (λ d ed _ _ e.
-    by-line "schedule=" (schedule a) card (afterLines card 4) 5 _ e (λ s es hs gs e.
-    by-line "words=" (wordCount b) card (afterLines card 5) 6 _ e (λ n en _ _ e.
+    by-number "cores=" false 1 maxCores 1 card 0 _ e (λ a ca e.
+    by-number "memory=" false minMemory maxMemory 4 card 1 _ e (λ b cb e.
+    by-number "entry=" true 0 maxWord 4 card 2 _ e (λ c ce e.
+    by-number "steps=" false 0 maxSteps 1 card 3 _ e (λ d cd e.
+    by-line "schedule=" (schedule a) card 4 _ e (λ s es hs gs e.
+    by-number "words=" false 0 (b / 4) 1 card 5 _ e (λ n cn e.
     by-words n _ _ e (λ ws l h f e.
     let made : good (job a b c d s ws) ≡ good j = none-good (l .rest) (l .next) e in
     let is : job a b c d s ws ≡ j = cc in
-    let ca = limited-value 1 maxCores 1 (decimal (on card "cores=" 0)) ea in
-    let cb = limited-value minMemory maxMemory 4 (decimal (on card "memory=" 1)) eb in
-    let cc′ = limited-value 0 maxWord 4 (hexadecimal (on card "entry=" 2)) ec in
-    let cd = limited-value 0 maxSteps 1 (decimal (on card "steps=" 3)) ed in
-    let cs = schedule-value a (on card "schedule=" 4) es in
-    let cn = limited-value 0 (b / 4) 1 (decimal (on card "words=" 5)) en in
-    let q = text-digits (ascii "schedule=") card (afterLines card 4) a hs gs cs in
-    let w : wordsFrom (length ws) (lines (drop (afterLines card 6) card)) ≡ ws = ap (λ m. wordsFrom m (lines (drop (afterLines card 6) card))) h ∙ f in
+    let cs = schedule-value a (textAt (ascii "schedule=") card (afterLines card beforeSchedule)) es in
+    let q = text-digits (ascii "schedule=") card (afterLines card beforeSchedule) a hs gs cs in
+    let w : wordsFrom (length ws) (lines (drop (afterLines card headerLines) card)) ≡ ws =
+    ap (λ m. wordsFrom m (lines (drop (afterLines card headerLines) card))) h ∙ f in
     let r : Read card (job a b c d s ws) = record {
       sound = record {
         cores-low = ca .above;
@@ -157,7 +145,7 @@ content-read card j e =
         memory-low = cb .above;
         memory-high = cb .below;
         memory-multiple = cb .multiple;
-        entry-multiple = cc′ .multiple;
+        entry-multiple = ce .multiple;
         steps-high = cd .below;
         digits-low = cs .some;
         digits-high = cs .few;
@@ -183,7 +171,8 @@ says-sound card j e = says-read card j e .sound
 -- ---- what the reader's answer says of the card
 
 -- a good answer is what the card says, by its places
-good-by : (card : List ℕ) (v : Verdict Job) (j : code.Job) → cardSays card ≡ v → good j ≡ answered card v → (cardSays card ≡ good (jobAt card j)) × (j .schedule + j .digits ≤ length card)
+good-by : (card : List ℕ) (v : Verdict Job) (j : code.Job) → cardSays card ≡ v → good j ≡ answered card v
+    → (cardSays card ≡ good (jobAt card j)) × (j .schedule + j .digits ≤ length card)
 good-by card (good i) j e h =
     let r = says-read card i e in
     let p : placed card i ≡ j = cc in
@@ -203,20 +192,9 @@ module _ (card : List ℕ) (j : code.Job) (h : good j ≡ answered card (cardSay
 
   pub good-bounds : Bounds card j
   good-bounds =
-      let s = says-sound card (jobAt card j) good-says in
       let i : j .schedule + j .digits ≤ length card = good-by card (cardSays card) j refl h .1 in
-      let n : length (map digit (take (j .digits) (drop (j .schedule) card))) ≡ j .digits =
-      length-map (take (j .digits) (drop (j .schedule) card)) digit ∙ length-take-le (j .digits) (drop (j .schedule) card) (simp length-drop (omega arith)) in
       record {
-        cores-low = s .cores-low;
-        cores-high = s .cores-high;
-        memory-low = s .memory-low;
-        memory-high = s .memory-high;
-        memory-multiple = s .memory-multiple;
-        entry-multiple = s .entry-multiple;
-        steps-high = s .steps-high;
-        digits-low = omega (arith, n, s .digits-low);
-        digits-high = omega (arith, n, s .digits-high);
+        sound = says-sound card (jobAt card j) good-says;
+        digits-counted = length-map (take (j .digits) (drop (j .schedule) card)) digit ∙ length-take-le (j .digits) (drop (j .schedule) card) (simp length-drop (omega arith));
         digits-placed = i;
-        words-fit = omega (arith, s .words-high, s .memory-multiple);
       }

@@ -12,17 +12,18 @@ use lib.Seq.{drop-cons, length-take-le}
 use Rattle.text.specs.Ascii.{ascii}
 use Rattle.text.specs.Digits.{digit}
 use Rattle.text.specs.Lines.{Line, ended, cut, onto, lines, entryOf}
-use Rattle.text.specs.Places.{lineEnd, foundIn}
+use Rattle.text.specs.Inner.{lineEnd, foundIn}
 use Rattle.text.specs.declared.Found.{Found}
+use Rattle.text.specs.declared.Found.the-variants.{At}
 use Rattle.card.specs.Card.{Field, step, stop, followed, read, first, schedule, word, wordLines, noneLeft, every, Left, Verdict, good, refused, formFault}
 use Rattle.card.specs.Answer.{refusal}
-use Rattle.card.specs.Places.{stepIn, fieldIn, Next, Ahead}
-use Rattle.card.specs.Reader.{header, putSchedule, scheduleLine}
+use Rattle.card.specs.Inner.{stepIn, fieldIn, Next, Ahead, scheduleIn, left, header, putSchedule, scheduleLine, close}
 use Rattle.card.specs.declared.Job.{Job}
 use Rattle.card.specs.declared.Progress.{Progress}
 use Rattle.card.specs.declared.Field.the-variants as F
 use Rattle.card.specs.declared.Field as D
 use Rattle.card.specs.declared.Cause.{Cause}
+use Rattle.card.specs.declared.Check.{Check}
 
 -- a field's number with the lines after it
 pub step-of : (card : List ℕ) (n : ℕ) (r : D.Field) → Next n r → stepIn card r ≡ followed (lines (drop n card)) (fieldIn r)
@@ -34,7 +35,8 @@ ahead card at n (F.Value v next) e h k = (e ∙ h, rw e k)
 ahead card at n (F.Fault c) e h k = tt
 
 -- the line that was found, or was not
-pub first-found : {A : Type 0} (key : List ℕ) (f : List ℕ → Field A) (s : List ℕ) (ls : List Line) {a b : Found} → foundIn s a ≡ entryOf key ls → a ≡ b → first key f ls ≡ read f (foundIn s b)
+pub first-found : {A : Type 0} (key : List ℕ) (f : List ℕ → Field A) (s : List ℕ) (ls : List Line) {a b : Found} → foundIn s a ≡ entryOf key ls → a ≡ b
+    → first key f ls ≡ read f (foundIn s b)
 first-found key f s ls e g = ap (read f) (sym e ∙ ap (foundIn s) g)
 
 -- the reader after a line with a number
@@ -50,6 +52,15 @@ module _ (key : List ℕ) (f : List ℕ → Field ℕ) (put : ℕ → Job → Jo
 
 -- the reader after the schedule's line
 module _ (card : List ℕ) (p : Progress) where
+  -- what it says, by the check of its text
+  pub schedule-said : {f : Found} {from end : ℕ} {k l : Check} → foundIn card f ≡ entryOf (ascii "schedule=") (lines (drop (p .at) card)) → f ≡ At from end
+      → scheduleIn (take (end - from) (drop from card)) k ≡ schedule (p .job .cores) (take (end - from) (drop from card)) → k ≡ l
+      → first (ascii "schedule=") (schedule (p .job .cores)) (lines (drop (p .at) card))
+      ≡ followed (lines (drop (end + 1) card)) (scheduleIn (take (end - from) (drop from card)) l)
+  schedule-said {f} {from} {end} e g s h =
+      first-found (ascii "schedule=") (schedule (p .job .cores)) card (lines (drop (p .at) card)) e g
+      ∙ ap (followed (lines (drop (end + 1) card))) (sym s ∙ ap (scheduleIn (take (end - from) (drop from card))) h)
+
   pub schedule-good : {from end : ℕ} → from ≡ p .at + length (ascii "schedule=") → end ≡ lineEnd card (p .at) → from ≤ end → end < length card
       → first (ascii "schedule=") (schedule (p .job .cores)) (lines (drop (p .at) card)) ≡ step (map digit (take (end - from) (drop from card))) (lines (drop (end + 1) card))
       → good (record { at = end + 1; line = p .line + 1; job = putSchedule from (end - from) (p .job) }) ≡ scheduleLine card p
@@ -81,7 +92,7 @@ module _ {B : Type 0} (k : Left → Verdict B) where
   words-stop zero l h e = absurd (not-suc-le-zero h)
   words-stop (suc n) l h e = simp e
 
-  pub words-done : (n : ℕ) (l : Left) → n ≤ 0 → wordLines n l (λ ws. k) ≡ k l
+  words-done : (n : ℕ) (l : Left) → n ≤ 0 → wordLines n l (λ ws. k) ≡ k l
   unfolding wordLines
   words-done zero l h = refl
   words-done (suc n) l h = absurd (not-suc-le-zero h)
@@ -103,9 +114,17 @@ module _ {B : Type 0} (n : ℕ) (v : Verdict B) where
   over (b ∷ s) h = over-cons b s (eqb b 10) refl
 
   module _ (card : List ℕ) (at : ℕ) where
-    pub left-over : at < length card → noneLeft (lines (drop at card)) n v ≡ refused formFault n
+    left-over : at < length card → noneLeft (lines (drop at card)) n v ≡ refused formFault n
     left-over h = over (drop at card) (simp length-drop (omega arith))
 
-    pub none-left : length card ≤ at → noneLeft (lines (drop at card)) n v ≡ v
+    none-left : length card ≤ at → noneLeft (lines (drop at card)) n v ≡ v
     unfolding lines
     none-left h = rw (drop-of-length-le card h)
+
+-- after the last w line
+module _ (j : Job) (n m : ℕ) (card : List ℕ) (at : ℕ) (h : n ≤ 0) where
+  pub words-over : at < length card → wordLines n (left card at m) (λ ws. close j) ≡ refused formFault m
+  words-over g = words-done (close j) n (left card at m) h ∙ left-over m (good j) card at g
+
+  pub words-whole : length card ≤ at → wordLines n (left card at m) (λ ws. close j) ≡ good j
+  words-whole g = words-done (close j) n (left card at m) h ∙ none-left m (good j) card at g

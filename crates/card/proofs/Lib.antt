@@ -2,3 +2,5 @@ pub mod Laws
 pub mod Whole
 pub mod Bounds
 mod Examples
+pub mod Apart
+pub mod Told

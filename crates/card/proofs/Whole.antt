@@ -9,12 +9,11 @@ use lib.Dec.{leb}
 use lib.ListN.{length, drop}
 use Rattle.text.specs.Ascii.{ascii}
 use Rattle.text.specs.Lines.{Line, lines, Entry}
-use Rattle.text.specs.Places.{lineEnd, afterLines}
+use Rattle.text.specs.Inner.{lineEnd, afterLines}
 use Rattle.text.proofs.Laws.{textAt, Stands, nowhere, there, entry-stands}
 use Rattle.card.specs.Card.{Field, value, fault, cores, memory, entryAddress, steps, schedule, wordCount, word, Step, step, stop, followed, read, first, onward, line, wordLines, noneLeft, content, cardSays, Left, Verdict, good, refused, Job, formFault, maxCard}
-use Rattle.card.specs.Answer.{told, andThen, placed, answered, job}
-use Rattle.card.specs.Places.{left}
-use Rattle.card.specs.Reader.{standing, startOf, headerLine, close, wordLinesOf, lastLines}
+use Rattle.card.specs.Answer.{told, andThen, headerLines, beforeSchedule, placed, answered, job}
+use Rattle.card.specs.Inner.{left, standing, startOf, headerLine, close, wordLinesOf, lastLines}
 use Rattle.card.specs.declared.Job as code
 use Rattle.card.specs.declared.Progress.{Progress}
 use Rattle.card.specs.declared.Reader.{Reader}
@@ -42,23 +41,34 @@ module _ (card : List ℕ) where
   abbrev pub end : Verdict Progress → Verdict code.Job
   end v = andThen v (lastLines card)
 
-  abbrev pub moves : Verdict code.Job
-  moves = end (move (move (move (move (move (move (startOf card)))))))
+  -- n lines of the header, and the rest
+  abbrev pub after : ℕ → Verdict Progress → Verdict code.Job
+  after zero v = end v
+  after (suc n) v = after n (move v)
 
-  -- a line of the card and a move over it, with what follows each
-  both : {A : Type 0} (key : String) (f : List ℕ → Field A) (at n : ℕ) (k : A → Left → Verdict Job) (h : A → Progress) (go : Verdict Progress → Verdict code.Job)
-      → ((m : ℕ) → refused m n ≡ go (refused m n)) → ((v : A) → answered card (k v (left card (lineEnd card at + 1) (n + 1))) ≡ go (good (h v)))
-      → answered card (line key f (left card at n) k) ≡ go (onward n (first (ascii key) f (lines (drop at card))) (λ v left. good (h v)))
-  both key f at n k h go r e = by-place (λ s. answered card (onward n s k) ≡ go (onward n s (λ v left. good (h v)))) (ascii key) f card at r (λ v _ _ _. e v)
+  abbrev pub moves : Verdict code.Job
+  moves = after headerLines (startOf card)
+
+  -- the line after i others and a move over it, with what follows each
+  both : {A : Type 0} (key : String) (f : List ℕ → Field A) (i : ℕ) (k : A → Left → Verdict Job) (h : A → Progress) (go : Verdict Progress → Verdict code.Job)
+      → ((m : ℕ) → refused m (suc i) ≡ go (refused m (suc i)))
+      → ((v : A) → answered card (k v (left card (lineEnd card (afterLines card i) + 1) (suc i + 1))) ≡ go (good (h v)))
+      → answered card (line key f (left card (afterLines card i) (suc i)) k) ≡ go (onward (suc i) (first (ascii key) f (lines (drop (afterLines card i) card))) (λ v left. good (h v)))
+  both key f i k h go r e =
+      by-place (λ s. answered card (onward (suc i) s k) ≡ go (onward (suc i) s (λ v left. good (h v)))) (ascii key) f card (afterLines card i) r (λ v _ _ _. e v)
 
   -- the w lines
-  word-both : (n m : ℕ) (s : Step ℕ) (k : List ℕ → Left → Verdict Job) (h : List ℕ → Left → Verdict code.Job) → ((ws : List ℕ) (l : Left) → length ws ≡ suc n → answered card (k ws l) ≡ h ws l)
-      → ((l : Left) (k : List ℕ → Left → Verdict Job) (h : List ℕ → Left → Verdict code.Job) → ((ws : List ℕ) (l : Left) → length ws ≡ n → answered card (k ws l) ≡ h ws l) → answered card (wordLines n l k) ≡ wordLines n l h)
+  -- k and h go alike on n words
+  abbrev Alike : ℕ → (List ℕ → Left → Verdict Job) → (List ℕ → Left → Verdict code.Job) → Type 0
+  Alike n k h = (ws : List ℕ) (l : Left) → length ws ≡ n → answered card (k ws l) ≡ h ws l
+
+  word-both : (n m : ℕ) (s : Step ℕ) (k : List ℕ → Left → Verdict Job) (h : List ℕ → Left → Verdict code.Job) → Alike (suc n) k h
+      → ((l : Left) (k : List ℕ → Left → Verdict Job) (h : List ℕ → Left → Verdict code.Job) → Alike n k h → answered card (wordLines n l k) ≡ wordLines n l h)
       → answered card (onward m s (λ w l. wordLines n l (λ ws. k (w ∷ ws)))) ≡ onward m s (λ w l. wordLines n l (λ ws. h (w ∷ ws)))
   word-both n m (step w ls) k h e ih = ih (record { next = m + 1; rest = ls }) (λ ws. k (w ∷ ws)) (λ ws. h (w ∷ ws)) (λ ws l g. e (w ∷ ws) l (ap suc g))
   word-both n m (stop f) k h e ih = refl
 
-  words-both : (n : ℕ) (l : Left) (k : List ℕ → Left → Verdict Job) (h : List ℕ → Left → Verdict code.Job) → ((ws : List ℕ) (l : Left) → length ws ≡ n → answered card (k ws l) ≡ h ws l)
+  words-both : (n : ℕ) (l : Left) (k : List ℕ → Left → Verdict Job) (h : List ℕ → Left → Verdict code.Job) → Alike n k h
       → answered card (wordLines n l k) ≡ wordLines n l h
   unfolding wordLines
   words-both zero l k h e = e [] l refl
@@ -71,27 +81,28 @@ module _ (card : List ℕ) where
   module _ (fits : leb (length card) maxCard ≡ true) where
     -- after the header: the job so far, and n w lines to come
     abbrev so-far : ℕ → ℕ → ℕ → ℕ → List ℕ → ℕ → ℕ → code.Job
-    so-far a b c d s n image = record { cores = a; memory = b; entry = c; steps = d; schedule = afterLines card 4 + length (ascii "schedule="); digits = length s; words = n; image = image }
+    so-far a b c d s n image =
+        record { cores = a; memory = b; entry = c; steps = d; schedule = afterLines card beforeSchedule + length (ascii "schedule="); digits = length s; words = n; image = image }
 
     last-both : (a b c d : ℕ) (s : List ℕ) (n : ℕ)
-        → answered card (wordLines n (left card (afterLines card 6) 7) (λ ws l. noneLeft (l .rest) (l .next) (good (job a b c d s ws))))
-        ≡ lastLines card (record { at = afterLines card 6; line = 7; job = so-far a b c d s n 0 })
+        → answered card (wordLines n (left card (afterLines card headerLines) (headerLines + 1)) (λ ws l. noneLeft (l .rest) (l .next) (good (job a b c d s ws))))
+        ≡ lastLines card (record { at = afterLines card headerLines; line = headerLines + 1; job = so-far a b c d s n 0 })
     unfolding lastLines wordLinesOf
     last-both a b c d s n =
         rw fits
-        (words-both n (left card (afterLines card 6) 7) _ (λ ws. close (so-far a b c d s n (afterLines card 6)))
-        (λ ws l e. close-both (l .rest) (l .next) (job a b c d s ws) ∙ ap (λ m. close (so-far a b c d s m (afterLines card 6)) l) e))
+        (words-both n (left card (afterLines card headerLines) (headerLines + 1)) _ (λ ws. close (so-far a b c d s n (afterLines card headerLines)))
+        (λ ws l e. close-both (l .rest) (l .next) (job a b c d s ws) ∙ ap (λ m. close (so-far a b c d s m (afterLines card headerLines)) l) e))
 
     header-both : answered card (content (left card 0 1)) ≡ moves
     unfolding content headerLine afterLines
     header-both =
         rw fits (
-        both "cores=" cores (afterLines card 0) 1 _ _ (λ v. end (move (move (move (move (move v)))))) (λ m. refl) (λ a.
-        both "memory=" memory (afterLines card 1) 2 _ _ (λ v. end (move (move (move (move v))))) (λ m. refl) (λ b.
-        both "entry=" entryAddress (afterLines card 2) 3 _ _ (λ v. end (move (move (move v)))) (λ m. refl) (λ c.
-        both "steps=" steps (afterLines card 3) 4 _ _ (λ v. end (move (move v))) (λ m. refl) (λ d.
-        both "schedule=" (schedule a) (afterLines card 4) 5 _ _ (λ v. end (move v)) (λ m. refl) (λ s.
-        both "words=" (wordCount b) (afterLines card 5) 6 _ _ end (λ m. refl) (last-both a b c d s)))))))
+        both "cores=" cores 0 _ _ (after 5) (λ m. refl) (λ a.
+        both "memory=" memory 1 _ _ (after 4) (λ m. refl) (λ b.
+        both "entry=" entryAddress 2 _ _ (after 3) (λ m. refl) (λ c.
+        both "steps=" steps 3 _ _ (after 2) (λ m. refl) (λ d.
+        both "schedule=" (schedule a) 4 _ _ (after 1) (λ m. refl) (λ s.
+        both "words=" (wordCount b) 5 _ _ (after 0) (λ m. refl) (last-both a b c d s)))))))
 
   card-both : (b : Bool) → leb (length card) maxCard ≡ b → moves ≡ answered card (cardSays card)
   unfolding cardSays

@@ -1,13 +1,14 @@
 -- What the reader's answers stand for: they hold places in the card, and a cause for each refusal.
-use Prim.Native.Nat.{ℕ, zero, suc, _+_, _*_, _%_, _≤_}
+use Prim.Native.Nat.{ℕ, zero, suc, _+_, _/_, _%_, _≤_}
 use mathlib.Core.Path.{_≡_}
 use mathlib.Core.List.{List, [], _∷_, map}
 use lib.ListN.{length, take, drop}
+use lib.Dec.{T, ltb}
 use Rattle.text.specs.Ascii.{ascii}
 use Rattle.text.specs.Digits.{digit}
 use Rattle.text.specs.Lines.{Line, lines}
-use Rattle.text.specs.Places.{afterLines}
-use Rattle.card.specs.Card.{Step, step, stop, first, word, Job, Verdict, good, refused, imageFault, formFault, valueFault, maxCores, minMemory, maxMemory, maxSteps, maxDigits}
+use Rattle.text.specs.Inner.{afterLines}
+use Rattle.card.specs.Card.{Step, step, stop, first, word, every, Job, Verdict, good, refused, imageFault, formFault, valueFault, maxCores, minMemory, maxMemory, maxSteps, maxDigits}
 use Rattle.card.specs.declared.Cause.{Cause}
 use Rattle.card.specs.declared.Cause.the-variants.{Image, Form, Limit}
 use Rattle.card.specs.declared.Job as code
@@ -30,17 +31,24 @@ abbrev pub andThen : {A B : Type 0} → Verdict A → (A → Verdict B) → Verd
 andThen (good a) k = k a
 andThen (refused f n) k = refused f n
 
--- a job by its places in the card: four lines stand before the schedule's, six before the first w line
+-- how many lines stand before the first w line, and before the schedule's
+abbrev pub headerLines : ℕ
+headerLines = 6
+
+abbrev pub beforeSchedule : ℕ
+beforeSchedule = 4
+
+-- a job by its places in the card
 abbrev pub placed : List ℕ → Job → code.Job
 placed card j = record {
   cores = j .cores;
   memory = j .memory;
   entry = j .entry;
   steps = j .steps;
-  schedule = afterLines card 4 + length (ascii "schedule=");
+  schedule = afterLines card beforeSchedule + length (ascii "schedule=");
   digits = length (j .schedule);
   words = length (j .words);
-  image = afterLines card 6;
+  image = afterLines card headerLines;
 }
 
 -- the answer where a card says v
@@ -69,8 +77,8 @@ job cores memory entry steps schedule words = record { cores = cores; memory = m
 abbrev pub jobAt : List ℕ → code.Job → Job
 jobAt card j = job (j .cores) (j .memory) (j .entry) (j .steps) (scheduleAt card j) (wordsAt card j)
 
--- what a good card's job keeps to, for those who run it
-pub record Bounds (card : List ℕ) (j : code.Job) : Type 0 where
+-- what a good card's job keeps to
+pub record Sound (j : Job) : Type 0 where
   pub cores-low : 1 ≤ j .cores
   pub cores-high : j .cores ≤ maxCores
   pub memory-low : minMemory ≤ j .memory
@@ -78,7 +86,13 @@ pub record Bounds (card : List ℕ) (j : code.Job) : Type 0 where
   pub memory-multiple : j .memory % 4 ≡ 0
   pub entry-multiple : j .entry % 4 ≡ 0
   pub steps-high : j .steps ≤ maxSteps
-  pub digits-low : 1 ≤ j .digits
-  pub digits-high : j .digits ≤ maxDigits
+  pub digits-low : 1 ≤ length (j .schedule)
+  pub digits-high : length (j .schedule) ≤ maxDigits
+  pub cores-named : T (every (λ d. ltb d (j .cores)) (j .schedule))
+  pub words-high : length (j .words) ≤ j .memory / 4
+
+-- the same by its places, for those who run it: its digits stand in the card
+pub record Bounds (card : List ℕ) (j : code.Job) : Type 0 where
+  pub sound : Sound (jobAt card j)
+  pub digits-counted : length (scheduleAt card j) ≡ j .digits
   pub digits-placed : j .schedule + j .digits ≤ length card
-  pub words-fit : 4 * length (wordsAt card j) ≤ j .memory

@@ -57,11 +57,11 @@ abbrev pub limited : ℕ → ℕ → ℕ → Parsed → Field ℕ
 limited low high m (Number v) = if within low high v && eqb (v % m) 0 then value v else fault valueFault
 limited low high m Nothing = fault formFault
 
--- "cores 1-4"
+-- "cores 1–4"
 abbrev pub cores : List ℕ → Field ℕ
 cores t = limited 1 maxCores 1 (decimal t)
 
--- "memory 4,096-16,384, a multiple of 4"
+-- "memory 4,096–16,384, a multiple of 4"
 abbrev pub memory : List ℕ → Field ℕ
 memory t = limited minMemory maxMemory 4 (decimal t)
 
@@ -69,7 +69,7 @@ memory t = limited minMemory maxMemory 4 (decimal t)
 abbrev pub entryAddress : List ℕ → Field ℕ
 entryAddress t = limited 0 maxWord 4 (hexadecimal t)
 
--- "steps 0-16,384"
+-- "steps 0–16,384"
 abbrev pub steps : List ℕ → Field ℕ
 steps t = limited 0 maxSteps 1 (decimal t)
 
@@ -81,7 +81,7 @@ every f (b ∷ t) = f b && every f t
 abbrev pub digitsBelow : ℕ → List ℕ → Bool
 digitsBelow n = every (λ b. ltb (digit b) n)
 
--- "schedule, 1-16 core digits"; "A schedule digit that names no core is a value fault; no digit, more than 16 or any other character is a form fault."
+-- "schedule, 1–16 core digits"; "A schedule digit that names no core is a value fault; no digit, more than 16 or any other character is a form fault."
 abbrev pub schedule : ℕ → List ℕ → Field (List ℕ)
 schedule cores t =
     if within 1 maxDigits (length t) && digitsBelow 10 t then if digitsBelow cores t then value (map digit t) else fault valueFault else fault formFault

@@ -5,21 +5,20 @@ ghost use lib.ListN.{length, drop};
 ghost use Rattle.text.specs.Ascii.{ascii};
 ghost use Rattle.text.specs.Lines.{lines};
 ghost use Rattle.card.specs.Card.{limited as limitedOf, first, schedule as scheduleOf, digitsBelow, word, cardSays, maxCard};
-ghost use Rattle.card.specs.Answer.{told, andThen, answered};
-ghost use Rattle.card.specs.Places.{parsedBy, numberText, fieldIn, Next, stepIn, Ahead, scheduleIn};
-ghost use Rattle.card.specs.Reader.{standing, startOf, header, putOf, scheduleLine, headerLine, wordLinesOf, lastLines};
+ghost use Rattle.card.specs.Answer.{refusal, told, andThen, headerLines, answered};
+ghost use Rattle.card.specs.Inner.{parsedBy, numberText, fieldIn, Next, stepIn, Ahead, scheduleIn, standing, startOf, header, putOf, scheduleLine, headerLine, wordLinesOf, lastLines};
 use text::Found;
 use text::Parsed;
 
 const MAX_CARD: usize = 65536;
 
-const MAX_CORES: u32 = 4;
+pub const MAX_CORES: u32 = 4;
 
 const MIN_MEMORY: u32 = 4096;
 
 const MAX_MEMORY: u32 = 16384;
 
-const MAX_STEPS: u32 = 16384;
+pub const MAX_STEPS: u32 = 16384;
 
 const MAX_DIGITS: usize = 16;
 
@@ -33,6 +32,17 @@ pub enum Cause {
     Image,
     Form,
     Limit,
+}
+
+// Document 01's number of a cause.
+pub fn number(cause: Cause) -> u32
+    ensures { λ r. ⌜ r ≡ refusal cause ⌝ }
+{
+    match cause {
+        Cause::Image => 1,
+        Cause::Form => 9,
+        Cause::Limit => 10,
+    }
 }
 
 // A good card's job. The schedule's digits and the first w line are given by their places in the card.
@@ -180,7 +190,7 @@ fn put(mut job: Job, item: Item, n: u32) -> Job
 
 // A line with a number of the job.
 fn number_line(card: &[u8], p: Progress, item: Item, key: &[u8], form: Format) -> Reached
-    requires { ⌜ (p .line ≤ 6) × (0 < form .multiple) ⌝ }
+    requires { ⌜ (p .line ≤ headerLines) × (0 < form .multiple) ⌝ }
     ensures { λ r. ⌜ standing r ≡ header (now (key .entry)) (numberText form) (putOf item) (now (card .entry)) p ⌝ }
 {
     match number_at(card, p.at, key, form) {
@@ -198,7 +208,7 @@ fn number_line(card: &[u8], p: Progress, item: Item, key: &[u8], form: Format) -
 }
 
 fn schedule_line(card: &[u8], p: Progress) -> Reached
-    requires { ⌜ p .line ≤ 6 ⌝ }
+    requires { ⌜ p .line ≤ headerLines ⌝ }
     ensures { λ r. ⌜ standing r ≡ scheduleLine (now (card .entry)) p ⌝ }
 {
     match text::find_entry(card, p.at, b"schedule=") {

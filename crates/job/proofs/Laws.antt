@@ -1,108 +1,91 @@
--- Laws of what is laid into a list, and of words, schedules and states laid one after the other. Assumes nothing.
+-- Laws of what is stored one after another: the words of memory, schedules and states. Assumes nothing.
 use Prim.Native.Nat.{ℕ, zero, suc, _+_, _-_, _*_, _/_, _%_, _^_, _≤_, _<_}
 use mathlib.Core.Path.{_≡_, refl, ap, sym, _∙_}
 use mathlib.Core.Bool.{Bool, true, false, _&&_}
-use mathlib.Core.List.{List, [], _∷_, _++_, append-assoc, map}
+use mathlib.Core.List.{List, [], _∷_, _++_, map}
 use native.Mathlib.Numerals.{add-one}
 use native.Mathlib.Omega.{arith}
-use native.Mathlib.Nat.{not-suc-le-zero, zero-add, mod-lt}
-use borrow.Author.Tests.{eq-eqb, ne-eqb}
-use lib.Dec.{T, lit<}
-use lib.ListN.{length, take, drop, getD, set, replicate, length-append, length-drop, length-set, length-replicate, replicate-append-replicate, take-append-drop, length-map}
-use Rattle.bits.proofs.Lists.{set-append-add}
-use lib.Seq.{length-take-le, take-at, drop-append-add, drop-drop, drop-cons, sets-eq, set-at, set-append-left, getD-take, getD-drop}
+use native.Mathlib.Nat.{not-suc-le-zero, mod-lt}
+use borrow.Author.Tests.{eq-eqb, ne-eqb, ltb-true, ltb-false}
+use lib.Dec.{T, ltb}
+use lib.ListN.{length, take, drop, getD, set, replicate, List·getD-append, length-append, length-drop, length-replicate, getD-replicate, replicate-append-replicate, length-map}
+use lib.Seq.{sets, length-take-le, take-suc, set-append-left, getD-append-add, getD-take, getD-drop, getD-set-other}
 use Rattle.bits.proofs.Tests.{and-left, and-right}
 use Rattle.text.specs.Ascii.{ascii}
 use Rattle.text.specs.Digits.{digit}
-use Rattle.text.specs.Lines.{Line}
+use Rattle.text.specs.Lines.{Line, lines}
+use Rattle.text.proofs.Stores.{sets-next, sets-front}
+use Rattle.memory.specs.Memory.{stored}
+use Rattle.memory.proofs.Laws.{length-stored}
+use Rattle.effect.specs.State.{stateWords, pcAt, srAt, esrAt, modeAt, running}
 use Rattle.card.specs.Card.{Job, Verdict, good, refused, imageFault, cardSays, step, stop, first, word, every}
 use Rattle.card.specs.Answer.{wordsFrom}
-use Rattle.job.specs.Laid.{laid}
-use Rattle.effect.specs.State.{stateWords, pcAt, srAt, esrAt, modeAt, running}
-use Rattle.job.specs.Job.{reading, imageAfter, imageLength, wordBytes, bytes, entries, resetSR, resetState, resetStates}
+use Rattle.card.specs.Inner.{stepIn}
+use Rattle.card.specs.declared.Cause.{Cause}
+use Rattle.card.specs.declared.Field.{Field}
+use Rattle.card.specs.declared.Field.the-variants.{Value, Fault}
+use Rattle.job.specs.Job.{reading, filled, memoryOf, imageAfter, imageLength, entries, resetSR, resetState, resetStates}
 
-module _ (l : List ℕ) (at : ℕ) where
-  pub laid-none : laid l at [] ≡ l
-  unfolding laid
-  laid-none = let m : at + 0 ≡ at = omega arith in simp (m, take-append-drop)
+-- ---- the words of memory
 
-  module _ (s : List ℕ) (h : at + length s ≤ length l) where
-    pub length-laid : length (laid l at s) ≡ length l
-    unfolding laid
-    length-laid = simp (length-append, length-take-le at l (omega arith), length-drop) (omega arith)
+pub fill-none : (m : List ℕ) (at : ℕ) → filled m at [] ≡ m
+unfolding filled
+fill-none m at = refl
 
-    ahead : List ℕ
-    ahead = take at l ++ s
+pub fill-step : (m : List ℕ) (at w : ℕ) (ws : List ℕ) → filled m at (w ∷ ws) ≡ filled (stored 4 m at w) (at + 4) ws
+unfolding filled
+fill-step m at w ws = refl
 
-    length-ahead : length ahead ≡ at + length s
-    unfolding ahead
-    length-ahead = simp (length-append, length-take-le at l (omega arith))
+pub length-filled : (m : List ℕ) (at : ℕ) (ws : List ℕ) → length (filled m at ws) ≡ length m
+unfolding filled
+length-filled m at [] = refl
+length-filled m at (w ∷ ws) = length-filled (stored 4 m at w) (at + 4) ws ∙ length-stored 4 m at w
 
-    laid-is : laid l at s ≡ ahead ++ drop (at + length s) l
-    unfolding laid ahead
-    laid-is = sym (append-assoc (take at l) s (drop (at + length s) l))
+-- stores into the first of two lists
+stored-first : (n : ℕ) (s t : List ℕ) (at v : ℕ) → at + n ≤ length s → stored n (s ++ t) at v ≡ stored n s at v ++ t
+unfolding stored
+stored-first zero s t at v h = refl
+stored-first (suc n) s t at v h =
+    let l : length (stored n s (at + 1) v) ≡ length s = length-stored n s (at + 1) v in
+    let x : ℕ = v / 256 ^ n % 256 in
+    ap (λ m. set m at x) (stored-first n s t (at + 1) v (omega arith)) ∙ set-append-left (stored n s (at + 1) v) t at x (omega arith)
 
-    -- one list after another is both together
-    pub laid-laid : (t : List ℕ) → at + length s + length t ≤ length l → laid (laid l at s) (at + length s) t ≡ laid l at (s ++ t)
-    unfolding laid ahead
-    laid-laid t g =
-        let d : List ℕ = drop (at + length s) l in
-        let x : take (at + length s) (laid l at s) ≡ ahead = ap (take (at + length s)) laid-is ∙ take-at ahead d (at + length s) length-ahead in
-        let m : at + length s + length t ≡ at + length (s ++ t) = simp length-append (omega arith) in
-        let y : drop (at + length s + length t) (laid l at s) ≡ drop (at + length (s ++ t)) l =
-        ap (drop (at + length s + length t)) laid-is
-        ∙ ap (λ k. drop (k + length t) (ahead ++ d)) (sym length-ahead)
-        ∙ drop-append-add ahead d (length t)
-        ∙ drop-drop (length t) (at + length s) l
-        ∙ ap (λ k. drop k l) m in
-        simp (x, y, append-assoc)
+filled-first : (s t : List ℕ) (at : ℕ) (ws : List ℕ) → at + 4 * length ws ≤ length s → filled (s ++ t) at ws ≡ filled s at ws ++ t
+unfolding filled
+filled-first s t at [] h = refl
+filled-first s t at (w ∷ ws) h =
+    let l : length (stored 4 s at w) ≡ length s = length-stored 4 s at w in
+    ap (λ m. filled m (at + 4) ws) (stored-first 4 s t at w (omega arith)) ∙ filled-first (stored 4 s at w) t (at + 4) ws (omega arith)
 
-    -- a store right after it, and a store into it
-    pub laid-more : (v : ℕ) → at + length s < length l → set (laid l at s) (at + length s) v ≡ laid l at (s ++ (v ∷ []))
-    unfolding laid ahead
-    laid-more v g =
-        let m : at + length (s ++ (v ∷ [])) ≡ suc (at + length s) = simp length-append (omega arith) in
-        ap (λ k. set k (at + length s) v) laid-is
-        ∙ ap (λ k. set (ahead ++ k) (at + length s) v) (drop-cons l (at + length s) 0 g)
-        ∙ set-at ahead (getD l (at + length s) 0) (drop (suc (at + length s)) l) v (at + length s) length-ahead
-        ∙ simp (m, append-assoc)
+-- a memory at the start of an image, filled there
+pub filled-image : (image s ws : List ℕ) → length s ≤ length image → 4 * length ws ≤ length s → filled (sets image 0 s) 0 ws ≡ sets image 0 (filled s 0 ws)
+filled-image image s ws h g =
+    let l : length (filled s 0 ws) ≡ length s = length-filled s 0 ws in
+    ap (λ m. filled m 0 ws) (sets-front image s h)
+    ∙ filled-first s (drop (length s) image) 0 ws (omega arith)
+    ∙ ap (λ n. filled s 0 ws ++ drop n image) (sym l)
+    ∙ sym (sets-front image (filled s 0 ws) (omega arith))
 
-pub laid-set : (l : List ℕ) (at : ℕ) (s : List ℕ) (k v : ℕ) → at + length s ≤ length l → k < length s → set (laid l at s) (at + k) v ≡ laid l at (set s k v)
-unfolding laid
-laid-set l at s k v h g =
-    let n : length (take at l) ≡ at = length-take-le at l (omega arith) in
-    ap (λ i. set (laid l at s) (i + k) v) (sym n)
-    ∙ set-append-add (take at l) (s ++ drop (at + length s) l) k v
-    ∙ ap (λ q. take at l ++ q) (set-append-left s (drop (at + length s) l) k v g)
-    ∙ simp (length-set s k v)
+pub length-memory : (j : Job) → length (memoryOf j) ≡ j .memory
+length-memory j = length-filled (replicate (j .memory) 0) 0 (j .words) ∙ length-replicate (j .memory) 0
 
--- four bytes are a word's
-pub put-stores : (l : List ℕ) (at w : ℕ) → at + 4 ≤ length l
-    → set (set (set (set l at (w / 2 ^ 24)) (at + 1) (w / 2 ^ 16 % 2 ^ 8)) (at + 2) (w / 2 ^ 8 % 2 ^ 8)) (at + 3) (w % 2 ^ 8) ≡ laid l at (wordBytes w)
-unfolding laid
-put-stores l at w h =
-    let e1 : at + 1 ≡ suc at = omega arith in
-    let e2 : at + 2 ≡ suc (suc at) = omega arith in
-    let e3 : at + 3 ≡ suc (suc (suc at)) = omega arith in
-    simp (e1, e2, e3) (sets-eq (wordBytes w) l at h ∙ append-assoc (take at l) (wordBytes w) (drop (at + 4) l))
-
-pub length-bytes : (ws : List ℕ) → length (bytes ws) ≡ 4 * length ws
-length-bytes [] = refl
-length-bytes (w ∷ ws) = let e = length-bytes ws in simp e (omega arith)
-
-pub fill-step : (l : List ℕ) (at w : ℕ) (ws : List ℕ) → at + 4 * suc (length ws) ≤ length l → laid (laid l at (wordBytes w)) (at + 4) (bytes ws) ≡ laid l at (bytes (w ∷ ws))
-fill-step l at w ws h = let e = length-bytes ws in laid-laid l at (wordBytes w) (omega arith) (bytes ws) (omega arith)
-
--- the words of the lines, one by one
-pub from-step : (n : ℕ) (ls : List Line) {w : ℕ} {rest : List Line} → 0 < n → first (ascii "w=") word ls ≡ step w rest → wordsFrom n ls ≡ w ∷ wordsFrom (n - 1) rest
+from-step : (n : ℕ) (ls : List Line) {w : ℕ} {rest : List Line} → 0 < n → first (ascii "w=") word ls ≡ step w rest → wordsFrom n ls ≡ w ∷ wordsFrom (n - 1) rest
 unfolding wordsFrom
 from-step zero ls h e = absurd (not-suc-le-zero h)
 from-step (suc n) ls h e = let m : suc n - 1 ≡ n = omega arith in simp (e, m)
 
-pub from-stop : (n : ℕ) (ls : List Line) {f : ℕ} → first (ascii "w=") word ls ≡ stop f → wordsFrom n ls ≡ []
+from-stop : (n : ℕ) (ls : List Line) {f : ℕ} → first (ascii "w=") word ls ≡ stop f → wordsFrom n ls ≡ []
 unfolding wordsFrom
 from-stop zero ls e = refl
 from-stop (suc n) ls e = simp e
+
+-- the words of the lines from a place on, one by one
+module _ (n : ℕ) (card : List ℕ) (at : ℕ) {r : Field} (s : stepIn card r ≡ first (ascii "w=") word (lines (drop at card))) where
+  pub from-value : {w next : ℕ} → 0 < n → r ≡ Value w next → wordsFrom n (lines (drop at card)) ≡ w ∷ wordsFrom (n - 1) (lines (drop next card))
+  from-value h e = from-step n (lines (drop at card)) h (sym s ∙ ap (stepIn card) e)
+
+  pub from-fault : {c : Cause} → r ≡ Fault c → wordsFrom n (lines (drop at card)) ≡ []
+  from-fault e = from-stop n (lines (drop at card)) (sym s ∙ ap (stepIn card) e)
 
 pub from-none : (n : ℕ) (ls : List Line) → n ≤ 0 → wordsFrom n ls ≡ []
 unfolding wordsFrom
@@ -110,29 +93,20 @@ from-none zero ls h = refl
 from-none (suc n) ls h = absurd (not-suc-le-zero h)
 
 -- one zero more
-pub zero-step : (l : List ℕ) (at i j : ℕ) → j ≡ at + i → j < length l → set (laid l at (replicate i 0)) j 0 ≡ laid l at (replicate (i + 1) 0)
-zero-step l at i j e h =
-    let z : List ℕ = replicate i 0 in
-    let n : length z ≡ i = length-replicate i 0 in
-    let m : j ≡ at + length z = omega arith in
-    ap (λ k. set (laid l at z) k 0) m
-    ∙ laid-more l at z (omega arith) 0 (omega arith)
-    ∙ ap (laid l at) (replicate-append-replicate i 1 0)
+pub zero-step : (l : List ℕ) (i : ℕ) → set (sets l 0 (replicate i 0)) i 0 ≡ sets l 0 (replicate (i + 1) 0)
+zero-step l i = sets-next l (replicate i 0) 0 (length-replicate i 0) ∙ ap (sets l 0) (replicate-append-replicate i 1 0)
 
--- one step more
+-- ---- the schedule
+
 pub length-entries : (s : List ℕ) (n : ℕ) → length (entries s n) ≡ n
 unfolding entries
 length-entries s zero = refl
 length-entries s (suc n) = let e = length-entries s n in simp (length-append, e) (omega arith)
 
-pub entries-step : (l s : List ℕ) (i : ℕ) → i < length l → set (laid l 0 (entries s i)) i (getD s (i % length s) 0) ≡ laid l 0 (entries s (i + 1))
+-- one step more
+pub entries-step : (l s : List ℕ) (i : ℕ) → set (sets l 0 (entries s i)) i (getD s (i % length s) 0) ≡ sets l 0 (entries s (i + 1))
 unfolding entries
-entries-step l s i h =
-    let n : 0 + length (entries s i) ≡ i = zero-add (length (entries s i)) ∙ length-entries s i in
-    let v : ℕ = getD s (i % length s) 0 in
-    ap (λ k. set (laid l 0 (entries s i)) k v) (sym n)
-    ∙ laid-more l 0 (entries s i) (omega arith) v (omega arith)
-    ∙ ap (λ k. laid l 0 (entries s k)) (sym (add-one i))
+entries-step l s i = sets-next l (entries s i) (getD s (i % length s) 0) (length-entries s i) ∙ ap (λ k. sets l 0 (entries s k)) (sym (add-one i))
 
 -- if each of a schedule's numbers passes a test, each step's does: with Sound's cores-named, each names a core
 and-both : (a b : Bool) → T a → T b → T (a && b)
@@ -173,35 +147,52 @@ digit-at card from n i h k =
     (getD-digits t (i % n) (omega arith)
     ∙ ap digit (getD-take n (drop from card) (i % n) 0 b ∙ getD-drop from card (i % n) 0))
 
--- one state more
-pub reset-stores : (l : List ℕ) (at entry : ℕ) → at + stateWords ≤ length l
-    → set (set (set (set (laid l at (replicate stateWords 0)) (at + pcAt) entry) (at + srAt) resetSR) (at + esrAt) resetSR) (at + modeAt) running ≡ laid l at (resetState entry)
-reset-stores l at entry h =
-    let z : List ℕ = replicate stateWords 0 in
-    let a : List ℕ = set z pcAt entry in
-    let b : List ℕ = set a srAt resetSR in
-    let c : List ℕ = set b esrAt resetSR in
-    ap (λ k. set (set (set k (at + srAt) resetSR) (at + esrAt) resetSR) (at + modeAt) running) (laid-set l at z pcAt entry h (lit< tt))
-    ∙ ap (λ k. set (set k (at + esrAt) resetSR) (at + modeAt) running) (laid-set l at a srAt resetSR h (lit< tt))
-    ∙ ap (λ k. set k (at + modeAt) running) (laid-set l at b esrAt resetSR h (lit< tt))
-    ∙ laid-set l at c modeAt running h (lit< tt)
+-- ---- the states
 
 pub length-states : (entry n : ℕ) → length (resetStates entry n) ≡ n * stateWords
 unfolding resetStates
 length-states entry zero = refl
 length-states entry (suc n) = let e = length-states entry n in simp (length-append, e) (omega arith)
 
-pub states-step : (l : List ℕ) (entry i at : ℕ) → at ≡ i * stateWords → at + stateWords ≤ length l → laid (laid l 0 (resetStates entry i)) at (resetState entry) ≡ laid l 0 (resetStates entry (i + 1))
-unfolding resetStates
-states-step l entry i at e h =
-    let r : List ℕ = resetStates entry i in
-    let n : length r ≡ i * stateWords = length-states entry i in
-    let m : 0 + length r ≡ at = omega arith in
-    ap (λ k. laid (laid l 0 r) k (resetState entry)) (sym m)
-    ∙ laid-laid l 0 r (omega arith) (resetState entry) (omega arith)
-    ∙ ap (λ k. laid l 0 (resetStates entry k)) (sym (add-one i))
+-- a word of a reset state that is not set is 0
+pub reset-zero : (entry place : ℕ) → place < stateWords → (place ≡ pcAt → ⊥) → (place ≡ srAt → ⊥) → (place ≡ esrAt → ⊥) → (place ≡ modeAt → ⊥)
+    → 0 ≡ getD (resetState entry) place 0
+reset-zero entry place h pc sr esr mode =
+    let z : List ℕ = replicate stateWords 0 in
+    let a : List ℕ = set z pcAt entry in
+    let b : List ℕ = set a srAt resetSR in
+    sym
+    (getD-set-other (set b esrAt resetSR) modeAt place running 0 mode
+    ∙ getD-set-other b esrAt place resetSR 0 esr
+    ∙ getD-set-other a srAt place resetSR 0 sr
+    ∙ getD-set-other z pcAt place entry 0 pc
+    ∙ getD-replicate stateWords place 0 0 h)
 
--- the answer and the image, by the image's length and by the card
+-- each core's state is the reset state
+pub word-reset : (entry n i : ℕ) → i < n * stateWords → getD (resetStates entry n) i 0 ≡ getD (resetState entry) (i % stateWords) 0
+unfolding resetStates
+word-reset entry zero i h = absurd (omega arith)
+word-reset entry (suc n) i h = reset-or (ltb i (length (resetStates entry n))) refl (word-reset entry n i)
+  where
+    reset-or : (b : Bool) → ltb i (length (resetStates entry n)) ≡ b
+        → (i < n * stateWords → getD (resetStates entry n) i 0 ≡ getD (resetState entry) (i % stateWords) 0)
+        → getD (resetStates entry n ++ resetState entry) i 0 ≡ getD (resetState entry) (i % stateWords) 0
+    reset-or true e ih =
+        let k : i < length (resetStates entry n) = ltb-true _ _ e in
+        let l : length (resetStates entry n) ≡ n * stateWords = length-states entry n in
+        List·getD-append (resetStates entry n) (resetState entry) 0 i k ∙ ih (omega arith)
+    reset-or false e ih =
+        let k : length (resetStates entry n) ≤ i = ltb-false _ _ e in
+        let l : length (resetStates entry n) ≡ n * stateWords = length-states entry n in
+        let m : i ≡ length (resetStates entry n) + i % stateWords = omega arith in
+        ap (λ j. getD (resetStates entry n ++ resetState entry) j 0) m ∙ getD-append-add (resetStates entry n) (resetState entry) (i % stateWords) 0
+
+-- one word more
+pub reset-step : (l s : List ℕ) (i : ℕ) → i < length s → set (sets l 0 (take i s)) i (getD s i 0) ≡ sets l 0 (take (i + 1) s)
+reset-step l s i h = sets-next l (take i s) (getD s i 0) (length-take-le i s (omega arith)) ∙ ap (sets l 0) (sym (ap (λ k. take k s) (add-one i) ∙ take-suc s i 0 h))
+
+-- ---- the answer and the image, by the image's length and by the card
+
 module _ (card image : List ℕ) where
   pub wrong-image : (length image ≡ imageLength → ⊥) → reading card image ≡ refused imageFault 0
   unfolding reading
@@ -215,6 +206,6 @@ pub image-kept : {v : Verdict Job} {f n : ℕ} (image : List ℕ) → v ≡ refu
 unfolding imageAfter
 image-kept image e = simp e
 
-pub image-laid : {v : Verdict Job} {j : Job} (image : List ℕ) → v ≡ good j → imageAfter v image ≡ laid (laid image 0 (replicate (j .memory) 0)) 0 (bytes (j .words))
+pub image-laid : {v : Verdict Job} {j : Job} (image : List ℕ) → v ≡ good j → imageAfter v image ≡ sets image 0 (memoryOf j)
 unfolding imageAfter
 image-laid image e = simp e

@@ -1,12 +1,13 @@
 -- What the card reader answers and leaves, and what a good job starts from: document 01, "The run card", "Turned back" and "What is lent".
-use Prim.Native.Nat.{ℕ, zero, suc, _/_, _%_, _^_}
+use Prim.Native.Nat.{ℕ, zero, suc, _+_, _%_}
 use mathlib.Core.List.{List, [], _∷_, _++_}
 use lib.ListN.{length, getD, set, replicate}
+use lib.Seq.{sets}
 use lib.Dec.{eqb}
 use Rattle.bits.specs.Choice.{if_then_else_}
+use Rattle.memory.specs.Memory.{stored}
 use Rattle.effect.specs.State.{stateWords, pcAt, srAt, esrAt, modeAt, running}
 use Rattle.card.specs.Card.{Job, Verdict, good, refused, imageFault, cardSays}
-use Rattle.job.specs.Laid.{laid}
 
 -- "a lent image of 16,384"
 abbrev pub imageLength : ℕ
@@ -16,17 +17,18 @@ imageLength = 16384
 unfoldable pub reading : List ℕ → List ℕ → Verdict Job
 reading card image = if eqb (length image) imageLength then cardSays card else refused imageFault 0
 
--- a word, "high byte first"
-abbrev pub wordBytes : ℕ → List ℕ
-wordBytes w = w / 2 ^ 24 ∷ w / 2 ^ 16 % 2 ^ 8 ∷ w / 2 ^ 8 % 2 ^ 8 ∷ w % 2 ^ 8 ∷ []
+-- words one after another from an address on, as a store leaves them
+unfoldable pub filled : List ℕ → ℕ → List ℕ → List ℕ
+filled memory at [] = memory
+filled memory at (w ∷ ws) = filled (stored 4 memory at w) (at + 4) ws
 
-abbrev pub bytes : List ℕ → List ℕ
-bytes [] = []
-bytes (w ∷ ws) = wordBytes w ++ bytes ws
+-- "It zeroes and fills (w words from address 0) the first memory bytes"
+abbrev pub memoryOf : Job → List ℕ
+memoryOf j = filled (replicate (j .memory) 0) 0 (j .words)
 
--- "It zeroes and fills (w words from address 0) the first memory bytes of a lent image of 16,384, leaving the rest, only after the whole card is good."
+-- ".. of a lent image of 16,384, leaving the rest, only after the whole card is good."
 unfoldable pub imageAfter : Verdict Job → List ℕ → List ℕ
-imageAfter (good j) image = laid (laid image 0 (replicate (j .memory) 0)) 0 (bytes (j .words))
+imageAfter (good j) image = sets image 0 (memoryOf j)
 imageAfter (refused f n) image = image
 
 -- "core digits repeated up to steps": the core of each of the first n steps

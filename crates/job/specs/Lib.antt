@@ -1,3 +1,3 @@
-pub mod Laid
+-- Job: document 01. Answer: what the card reader promises.
 pub mod Job
 pub mod Answer

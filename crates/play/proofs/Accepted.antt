@@ -1,57 +1,47 @@
 -- The run of a good card's job is not refused. Assumes nothing.
 use mathlib.Core.Path.{_≡_, refl, ap, sym, subst, _∙_}
-use mathlib.Core.List.{List, [], _∷_, _++_}
+use mathlib.Core.List.{List, [], _∷_}
 use Prim.Native.Nat.{ℕ, zero, suc, _+_, _*_, _/_, _%_, _≤_, _<_}
 use native.Mathlib.Omega.{arith}
 use borrow.Author.Tests.{eq-eqb, le-leb}
 use lib.Dec.{T, eqb, leb, ltb, lit<}
 use lib.ListN.{length, getD, replicate, length-replicate}
-use lib.Seq.{getD-append-add}
 use Rattle.bits.proofs.Tests.{and-left, and-right, and-both, T-of}
 use Rattle.effect.specs.State.{stateWords, pcAt, delayAt, targetAt, srAt, epcrAt, esrAt, linkAt, linkAddressAt, modeAt}
 use Rattle.arith.specs.Status.{allowed, only}
+use Rattle.effect.specs.declared.types.Board.{Board}
 use Rattle.semantics.specs.Commit.{wordAt, coreCount}
-use Rattle.lawful.specs.Rules.{Mode, is-running}
+use Rattle.lawful.specs.Inner.{Mode, is-running}
 use Rattle.lawful.specs.Accepted.{accepted}
 use Rattle.lawful.proofs.Accepted.{means-accepted}
-use Rattle.lawful.proofs.Cases.{by-equality}
-use Rattle.engine.specs.Refusal.{everyFrom, memoryFits, statesFit, statesObey, scheduleFits, namesCores, cacheFits, entryRight, entriesRight, cacheRules, rulesThen, fastRefusal}
-use Rattle.engine.proofs.Tests.{of-below, none-broken}
+use Rattle.refusal.specs.Lent.{boardOf}
+use Rattle.refusal.specs.Refusal.{everyFrom, memoryFits, statesFit, statesObey, maxSchedule, scheduleFits, namesCores, cacheFits, entryRight, entriesRight, fastRefusal}
+use Rattle.refusal.proofs.Tests.{of-below}
+use Rattle.refusal.proofs.Passes.{none-refused}
 use Rattle.card.specs.Card.{Job, every}
-use Rattle.card.proofs.Bounds.{Sound}
-use Rattle.job.specs.Job.{bytes, resetSR, resetState, resetStates}
-use Rattle.job.proofs.Laws.{length-laid, length-bytes, length-states, length-entries, every-entry}
-use Rattle.play.specs.Output.{memoryOf, statesOf, scheduleOf, emptyCache}
+use Rattle.card.specs.Answer.{Sound}
+use Rattle.job.specs.Job.{memoryOf, resetSR, resetState, resetStates}
+use Rattle.job.proofs.Laws.{length-memory, length-states, word-reset as reset-word, length-entries, every-entry}
+use Rattle.play.specs.Output.{statesOf, scheduleOf, emptyCache, lentBy}
 
 equal : (m n : ℕ) → m ≡ n → T (eqb m n)
 equal m n e = T-of (eqb m n) (eq-eqb m n e)
 
 -- ---- states
 
-getD-append-first : (xs ys : List ℕ) (i : ℕ) → i < length xs → getD (xs ++ ys) i 0 ≡ getD xs i 0
-getD-append-first [] ys i h = absurd (let z : i < 0 = h in omega arith)
-getD-append-first (x ∷ xs) ys zero h = refl
-getD-append-first (x ∷ xs) ys (suc i) h = getD-append-first xs ys i (omega arith)
-
 -- each core's state is the reset state
 word-reset : (entry n core k : ℕ) → core < n → k < stateWords → wordAt (resetStates entry n) core k ≡ getD (resetState entry) k 0
-unfolding resetStates
-word-reset entry zero core k h g = absurd (omega arith)
-word-reset entry (suc n) core k h g =
-    let r : List ℕ = resetStates entry n in
-    let l : length r ≡ n * stateWords = length-states entry n in
-    by-equality core n
-    (λ e. let z : core * stateWords + k ≡ length r + k = omega arith in
-    ap (λ (i : ℕ). getD (r ++ resetState entry) i 0) z ∙ getD-append-add r (resetState entry) k 0)
-    (λ e. getD-append-first r (resetState entry) (core * stateWords + k) (omega arith) ∙ word-reset entry n core k (omega arith) g)
+word-reset entry n core k h g =
+    let m : (core * stateWords + k) % stateWords ≡ k = omega arith in
+    reset-word entry n (core * stateWords + k) (omega arith) ∙ ap (λ (i : ℕ). getD (resetState entry) i 0) m
 
 allowed-reset : allowed resetSR ≡ resetSR
 unfolding allowed only
 allowed-reset = refl
 
 module _ (entry n : ℕ) (h : entry % 4 ≡ 0) where
-  reset-accepted : (core : ℕ) → core < n → T (accepted (resetStates entry n) core)
-  reset-accepted core g =
+  reset-accepted : (board : Board) (core : ℕ) → core < n → T (accepted board (resetStates entry n) core)
+  reset-accepted board core g =
       let w0 : wordAt (resetStates entry n) core 0 ≡ 0 = word-reset entry n core 0 g (lit< tt) in
       let pc : wordAt (resetStates entry n) core pcAt ≡ entry = word-reset entry n core pcAt g (lit< tt) in
       let delay : wordAt (resetStates entry n) core delayAt ≡ 0 = word-reset entry n core delayAt g (lit< tt) in
@@ -62,7 +52,7 @@ module _ (entry n : ℕ) (h : entry % 4 ≡ 0) where
       let link : wordAt (resetStates entry n) core linkAt ≡ 0 = word-reset entry n core linkAt g (lit< tt) in
       let address : wordAt (resetStates entry n) core linkAddressAt ≡ 0 = word-reset entry n core linkAddressAt g (lit< tt) in
       let mode : wordAt (resetStates entry n) core modeAt ≡ 3 = word-reset entry n core modeAt g (lit< tt) in
-      means-accepted (resetStates entry n) core
+      means-accepted board (resetStates entry n) core
       (record {
         zero-register = w0;
         flow-lawful = record { delay-bit = omega arith; pc-multiple = ap (λ (x : ℕ). x % 4) pc ∙ h; target-multiple = ap (λ (x : ℕ). x % 4) target; no-target = λ _. target };
@@ -73,11 +63,11 @@ module _ (entry n : ℕ) (h : entry % 4 ≡ 0) where
         mode-lawful = subst Mode (sym mode) is-running;
       })
 
-  reset-obeys : T (statesObey (resetStates entry n))
+  reset-obeys : (board : Board) → T (statesObey board (resetStates entry n))
   unfolding statesObey
-  reset-obeys =
+  reset-obeys board =
       let l : length (resetStates entry n) ≡ n * stateWords = length-states entry n in
-      of-below (accepted (resetStates entry n)) (coreCount (resetStates entry n)) (λ core g. reset-accepted core (omega arith))
+      of-below (accepted board (resetStates entry n)) (coreCount (resetStates entry n)) (λ core g. reset-accepted board core (omega arith))
 
 -- ---- schedule and cache
 
@@ -89,10 +79,10 @@ every-from cores (x ∷ l) i t =
     let b : T (every (λ d. ltb d cores) l) = and-right (ltb x cores) (every (λ d. ltb d cores) l) t in
     and-both (ltb x cores) (everyFrom (λ i core. ltb core cores) (i + 1) l) a (every-from cores l (i + 1) b)
 
-empty-right : (mem : List ℕ) (n i : ℕ) → T (everyFrom (entryRight mem) i (replicate n 0))
+empty-right : (board : Board) (mem : List ℕ) (n i : ℕ) → T (everyFrom (entryRight board mem) i (replicate n 0))
 unfolding everyFrom
-empty-right mem zero i = tt
-empty-right mem (suc n) i = empty-right mem n (i + 1)
+empty-right board mem zero i = tt
+empty-right board mem (suc n) i = empty-right board mem n (i + 1)
 
 -- ---- the seven tests
 
@@ -104,47 +94,31 @@ unfolding memoryFits
 memory-fits n l h m =
     and-both (leb 4096 n) _ (below 4096 n l) (and-both (leb n 1048576) (eqb (n % 4) 0) (below n 1048576 (omega arith)) (equal (n % 4) 0 m))
 
-states-fit : (n : ℕ) → n % 42 ≡ 0 → 1 ≤ n / 42 → n / 42 ≤ 4 → T (statesFit n)
+states-fit : (n : ℕ) → n % stateWords ≡ 0 → 1 ≤ n / stateWords → n / stateWords ≤ 4 → T (statesFit n)
 unfolding statesFit
 states-fit n m l h =
-    and-both (eqb (n % 42) 0) _ (equal (n % 42) 0 m) (and-both (leb 1 (n / 42)) (leb (n / 42) 4) (below 1 (n / 42) l) (below (n / 42) 4 h))
+    let k = n / stateWords in
+    and-both (eqb (n % stateWords) 0) _ (equal (n % stateWords) 0 m) (and-both (leb 1 k) (leb k 4) (below 1 k l) (below k 4 h))
 
 module _ (j : Job) (h : Sound j) where
-  pub length-memory : length (memoryOf j) ≡ j .memory
-  length-memory =
-      let zeros : List ℕ = replicate (j .memory) 0 in
-      let l : length zeros ≡ j .memory = length-replicate (j .memory) 0 in
-      let b : length (bytes (j .words)) ≡ 4 * length (j .words) = length-bytes (j .words) in
-      let w : length (j .words) ≤ j .memory / 4 = h .words-high in
-      length-laid zeros 0 (bytes (j .words)) (omega arith) ∙ l
-
-  pub job-accepted : fastRefusal (memoryOf j) (statesOf j) (scheduleOf j) (emptyCache j) ≡ 0
-  unfolding fastRefusal scheduleFits namesCores cacheFits entriesRight
+  pub job-accepted : fastRefusal (lentBy j) (emptyCache j) ≡ 0
+  unfolding scheduleFits namesCores cacheFits entriesRight
   job-accepted =
-      let m : length (memoryOf j) ≡ j .memory = length-memory in
+      let m : length (memoryOf j) ≡ j .memory = length-memory j in
       let s : length (statesOf j) ≡ j .cores * stateWords = length-states (j .entry) (j .cores) in
       let n : length (scheduleOf j) ≡ j .steps = length-entries (j .schedule) (j .steps) in
       let c : length (statesOf j) / stateWords ≡ j .cores = omega arith in
       let e : length (emptyCache j) ≡ length (memoryOf j) / 4 = length-replicate (j .memory / 4) 0 ∙ ap (λ (k : ℕ). k / 4) (sym m) in
-      none-broken 1 (rulesThen (memoryOf j) (statesOf j) (scheduleOf j) (cacheRules (memoryOf j) (emptyCache j))) (
-        rw m (memory-fits (j .memory) (h .memory-low) (h .memory-high) (h .memory-multiple)),
-        (
-          states-fit (length (statesOf j)) (omega arith) (omega (arith, h .cores-low)) (omega (arith, h .cores-high)),
-          (
-            reset-obeys (j .entry) (j .cores) (h .entry-multiple),
-            (
-              below (length (scheduleOf j)) 65536 (omega (arith, h .steps-high)),
-              (
-                rw c (every-from (j .cores) (scheduleOf j) 0 (every-entry (λ d. ltb d (j .cores)) (j .schedule) (j .steps) (omega (arith, h .digits-low)) (h .cores-named))),
-                (
-                  equal (length (emptyCache j)) (length (memoryOf j) / 4) e,
-                  (
-                    empty-right (memoryOf j) (j .memory / 4) 0,
-                    tt,
-                  ),
-                ),
-              ),
-            ),
-          ),
-        ),
-      )
+      none-refused (lentBy j) (emptyCache j)
+      (record {
+        memory-fits = rw m (memory-fits (j .memory) (h .memory-low) (h .memory-high) (h .memory-multiple));
+        states-fit = states-fit (length (statesOf j)) (omega arith) (omega (arith, h .cores-low)) (omega (arith, h .cores-high));
+        states-obey = reset-obeys (j .entry) (j .cores) (h .entry-multiple) (boardOf (lentBy j));
+        schedule-fits = below (length (scheduleOf j)) maxSchedule (omega (arith, h .steps-high));
+        names-cores =
+            rw c (every-from (j .cores) (scheduleOf j) 0 (every-entry (λ d. ltb d (j .cores)) (j .schedule) (j .steps) (omega (arith, h .digits-low)) (h .cores-named)));
+      })
+      (record {
+        cache-fits = equal (length (emptyCache j)) (length (memoryOf j) / 4) e;
+        entries-right = empty-right (boardOf (lentBy j)) (memoryOf j) (j .memory / 4) 0;
+      })

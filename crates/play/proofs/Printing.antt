@@ -2,24 +2,26 @@
 use mathlib.Core.Path.{_≡_, ap, ap₂, sym, subst, _∙_}
 use mathlib.Core.Bool.{false}
 use mathlib.Core.List.{List, _++_}
-use Prim.Native.Nat.{ℕ, _+_, _-_, _*_, _/_, _≤_, _<_}
+use Prim.Native.Nat.{ℕ, _+_, _-_, _/_, _≤_, _<_}
 use native.Mathlib.Omega.{arith}
 use borrow.Author.Tests.{eq-eqb, le-ltb}
 use lib.Dec.{ltb}
-use lib.ListN.{length, take, drop, replicate, length-append, length-drop, length-replicate}
+use lib.ListN.{length, take, drop, length-append, length-drop}
 use Rattle.effect.specs.State.{stateWords}
+use Rattle.text.proofs.Stores.{take-sets}
 use Rattle.engine.specs.Plain.{Plain, plainRun}
 use Rattle.engine.specs.History.{history}
-use Rattle.engine.specs.Refusal.{fastRefusal}
+use Rattle.refusal.specs.Lent.{Lent, Left}
+use Rattle.refusal.specs.Refusal.{fastRefusal}
+use Rattle.refusal.specs.declared.cause.Refusal.{Refusal}
+use Rattle.refusal.proofs.Passes.{cause-number}
 use Rattle.engine.specs.Answer.{number, countsOf, plainOf, FastAnswer}
-use Rattle.engine.specs.declared.answer.Counts as engine
-use Rattle.engine.specs.declared.answer.Refusal.{Refusal}
+use Rattle.engine.specs.declared.answer.Counts.{Counts}
 use Rattle.engine.specs.declared.answer.Answer.{Answer}
 use Rattle.engine.specs.declared.answer.Answer.the-variants.{Ran, Refused}
-use Rattle.engine.proofs.Refusals.{cause-number, fast-runnable}
+use Rattle.engine.proofs.Answers.{fast-runnable}
 use Rattle.report.specs.Answer.{answer, written, resultRoom}
 use Rattle.report.specs.Result.{resultText, refusalText, cores}
-use Rattle.report.specs.declared.Counts.{Counts}
 use Rattle.report.specs.declared.Written.{Written}
 use Rattle.report.specs.declared.Written.the-variants.{Bytes, TooSmall}
 use Rattle.report.proofs.Room.{too-small}
@@ -30,12 +32,12 @@ use Rattle.card.specs.declared.Job as code
 use Rattle.card.specs.declared.Reading.{Reading}
 use Rattle.card.specs.declared.Reading.the-variants.{Good, Bad}
 use Rattle.card.proofs.Bounds.{good-says as card-says, bad-says}
-use Rattle.job.specs.Job.{imageLength, bytes, imageAfter}
+use Rattle.job.specs.Job.{imageLength, memoryOf, imageAfter}
 use Rattle.job.specs.Answer.{ReadJob}
-use Rattle.job.proofs.Laws.{right-image, image-laid, length-bytes}
+use Rattle.job.proofs.Laws.{right-image, image-laid, length-memory}
 use Rattle.play.specs.Output.{runText, jobText, verdictText, output}
-use Rattle.play.specs.Answer.{outputRoom, Among, Printed, Ready}
-use Rattle.play.proofs.Parts.{take-laid-twice}
+use Rattle.play.specs.Answer.{outputRoom, Among, Printed}
+use Rattle.play.specs.Inner.{Ready}
 
 -- ---- the answer
 
@@ -57,23 +59,21 @@ module _ (room : ℕ) (text out out′ : List ℕ) (r : Written) (h : outputRoom
 
 -- ---- a run that is not refused
 
-module _ {mem s schedule cache mem′ s′ cache′ : List ℕ} {r : Answer} (f : FastAnswer mem s schedule cache mem′ s′ cache′ r) (z : fastRefusal mem s schedule cache ≡ 0) where
+module _ {l : Lent} {cache cache′ : List ℕ} {x : Left} {r : Answer} (f : FastAnswer l cache x cache′ r) (z : fastRefusal l cache ≡ 0) where
   pub never-refused : {A : Type 0} (cause : Refusal) → r ≡ Refused cause → A
   never-refused cause e = absurd (cause-number cause (ap number (sym e) ∙ f .refusal ∙ z))
 
   -- its counts and states are the plain run's
-  pub run-text : (n : engine.Counts) → r ≡ Ran n
-      → resultText (record { executed = n .executed; raised = n .raised; reused = n .reused }) s′ ≡ runText mem s schedule cache
+  pub run-text : (n : Counts) → r ≡ Ran n → resultText n (x .states) ≡ runText l cache
   unfolding runText
   run-text n e =
-      let p : plainOf mem′ s′ n ≡ plainRun mem s schedule =
-      ap (λ (a : Answer). plainOf mem′ s′ (countsOf a)) (sym e) ∙ rw (eq-eqb _ _ z) at (f .left) in
-      let u : n .reused ≡ history mem s schedule cache .reused =
+      let p : plainOf x n ≡ plainRun l = ap (λ (a : Answer). plainOf x (countsOf a)) (sym e) ∙ rw (eq-eqb _ _ z) at (f .left) in
+      let u : n .reused ≡ history l cache .reused =
       ap (λ (a : Answer). countsOf a .reused) (sym e) ∙ rw (eq-eqb _ _ z) at (f .reused-count) in
       ap₂ (λ (x : Plain) (k : ℕ). resultText (record { executed = x .executed; raised = x .raised; reused = k }) (x .states)) p u
 
-  pub run-room : length s′ ≡ length s → resultRoom (cores s′) ≤ outputRoom
-  run-room l = let c = fast-runnable mem s schedule cache z .few-cores in let d : length s′ / stateWords ≤ 4 = rw l c in omega arith
+  pub run-room : length (x .states) ≡ length (l .states) → resultRoom (cores (x .states)) ≤ outputRoom
+  run-room e = let c = fast-runnable l cache z .few-cores in let d : length (x .states) / stateWords ≤ 4 = rw e c in omega arith
 
 -- ---- a card that was read
 
@@ -96,16 +96,14 @@ module _ {card image image′ : List ℕ} {r : Reading} (l : length image ≡ im
     pub ready : length image′ ≡ imageLength → Ready card j image′
     ready m =
         let b : Bounds card j = rw e at (h .held) in
-        let ws : List ℕ = jobAt card j .words in
-        let zeros : List ℕ = replicate (j .memory) 0 in
-        let z : length zeros ≡ j .memory = length-replicate (j .memory) 0 in
-        let n : length (bytes ws) ≡ 4 * length ws = length-bytes ws in
+        let n : length (memoryOf (jobAt card j)) ≡ j .memory = length-memory (jobAt card j) in
         let a : image′ ≡ imageAfter (cardSays card) image = h .written ∙ ap (λ v. imageAfter v image) (right-image card image l) in
+        let high = b .sound .memory-high in
         record {
           says = good-says;
           bounds = b;
-          fits = omega (arith, b .memory-high);
-          laid-out = ap (take (j .memory)) (a ∙ image-laid image good-says) ∙ take-laid-twice image zeros (bytes ws) (j .memory) z (omega (arith, b .words-fit));
+          fits = omega arith;
+          laid-out = ap (take (j .memory)) (a ∙ image-laid image good-says) ∙ take-sets image (memoryOf (jobAt card j)) (omega arith) (j .memory) n;
         }
 
 pub printed-as : {text text′ out out′ : List ℕ} {r : Written} → text ≡ text′ → Printed text out out′ r → Printed text′ out out′ r

@@ -1,3 +1,4 @@
--- What the runner prints for a card: Output transcribes document 01, Answer says what is done with the text.
+-- Output: document 01. Answer: what is done with the text. Inner serves the code.
 pub mod Output
 pub mod Answer
+pub mod Inner

@@ -4,16 +4,12 @@ use mathlib.Core.List.{List}
 use Prim.Native.Nat.{ℕ, _/_}
 use lib.ListN.{replicate}
 use Rattle.card.specs.Card.{Job, Verdict, good, refused, cardSays}
-use Rattle.job.specs.Laid.{laid}
-use Rattle.job.specs.Job.{bytes, entries, resetStates}
+use Rattle.job.specs.Job.{memoryOf, entries, resetStates}
+use Rattle.refusal.specs.Lent.{Lent, lent}
 use Rattle.engine.specs.Plain.{plainRun}
 use Rattle.engine.specs.History.{history}
-use Rattle.report.specs.declared.Counts.{Counts}
+use Rattle.engine.specs.declared.answer.Counts.{Counts}
 use Rattle.report.specs.Result.{resultText, refusalText}
-
--- "It zeroes and fills (w words from address 0) the first memory bytes"
-abbrev pub memoryOf : Job → List ℕ
-memoryOf j = laid (replicate (j .memory) 0) 0 (bytes (j .words))
 
 -- all cores start at the entry
 abbrev pub statesOf : Job → List ℕ
@@ -27,18 +23,18 @@ abbrev pub emptyCache : Job → List ℕ
 emptyCache j = replicate (j .memory / 4) 0
 
 -- the fast run's counts: by demand 3 the plain run's, and the history's reused
-abbrev pub runCounts : List ℕ → List ℕ → List ℕ → List ℕ → Counts
-runCounts mem s schedule cache = record {
-  executed = plainRun mem s schedule .executed;
-  raised = plainRun mem s schedule .raised;
-  reused = history mem s schedule cache .reused;
-}
+abbrev pub runCounts : Lent → List ℕ → Counts
+runCounts l cache = record { executed = plainRun l .executed; raised = plainRun l .raised; reused = history l cache .reused }
 
-unfoldable pub runText : List ℕ → List ℕ → List ℕ → List ℕ → List ℕ
-runText mem s schedule cache = resultText (runCounts mem s schedule cache) (plainRun mem s schedule .states)
+unfoldable pub runText : Lent → List ℕ → List ℕ
+runText l cache = resultText (runCounts l cache) (plainRun l .states)
+
+-- what a good card's run is lent
+abbrev pub lentBy : Job → Lent
+lentBy j = lent (memoryOf j) (statesOf j) (scheduleOf j)
 
 unfoldable pub jobText : Job → List ℕ
-jobText j = runText (memoryOf j) (statesOf j) (scheduleOf j) (emptyCache j)
+jobText j = runText (lentBy j) (emptyCache j)
 
 -- "a bad card prints `refused=9 line=3`"
 unfoldable pub verdictText : Verdict Job → List ℕ

@@ -4,45 +4,35 @@ ghost use Prim.Native.Nat.{_≤_};
 ghost use lib.ListN.{length};
 ghost use Rattle.card.specs.Answer.{refusal, jobAt};
 ghost use Rattle.report.specs.Result.{refusalText};
-ghost use Rattle.engine.specs.Refusal.{fastRefusal};
+ghost use Rattle.refusal.specs.Lent.{lent};
+ghost use Rattle.refusal.specs.Refusal.{fastRefusal};
 ghost use Rattle.play.specs.Output.{runText, jobText, output};
-ghost use Rattle.play.specs.Answer.{outputRoom, Printed, Ready};
+ghost use Rattle.play.specs.Answer.{outputRoom, Printed};
+ghost use Rattle.play.specs.Inner.{Ready};
 use card::Cause;
 use card::Job;
 use card::Reading;
 use effect::state;
 use engine::answer::Answer;
-use report::Counts;
 use report::Written;
 
-// The bytes that a card's output may take: the longest is that of four cores.
-pub const ROOM: usize = 2056;
+const CORES: usize = card::MAX_CORES as usize;
 
-// The largest job: its memory in bytes and in words, its cores' states and its steps.
-const IMAGE: usize = 16384;
+// The bytes that a card's output may take: the longest is that of all cores.
+pub const ROOM: usize = report::ENDS_ROOM + CORES * report::CORE_ROOM;
 
-const MEMORY_WORDS: usize = 4096;
+// The largest job: its memory's words, its cores' states and its steps.
+const MEMORY_WORDS: usize = job::IMAGE / 4;
 
-const STATES: usize = 168;
+const STATES: usize = CORES * state::STATE_WORDS;
 
-const STEPS: usize = 16384;
-
-// Document 01's number of each cause.
-fn refusal_number(cause: Cause) -> u32
-    ensures { λ r. ⌜ r ≡ refusal cause ⌝ }
-{
-    match cause {
-        Cause::Image => 1,
-        Cause::Form => 9,
-        Cause::Limit => 10,
-    }
-}
+const STEPS: usize = card::MAX_STEPS as usize;
 
 fn print_refusal(out: &mut [u8], cause: Cause, line: u32) -> Written
     requires { ⌜ outputRoom ≤ length (now out) ⌝ }
     ensures { λ r. ⌜ Printed (refusalText (refusal cause) line) (now (out .entry)) (now (out .exit)) r ⌝ }
 {
-    let number = refusal_number(cause);
+    let number = card::number(cause);
     report::write_refusal(out, number, line)
 }
 
@@ -54,19 +44,12 @@ fn print_run(
     cache: &mut [u64],
     out: &mut [u8],
 ) -> Written
-    requires { ⌜ fastRefusal (now memory) (now states) (now schedule) (now cache) ≡ 0 ⌝ }
+    requires { ⌜ fastRefusal (lent (now memory) (now states) (now schedule)) (now cache) ≡ 0 ⌝ }
     requires { ⌜ outputRoom ≤ length (now out) ⌝ }
-    ensures { λ r. ⌜ Printed (runText (now (memory .entry)) (now (states .entry)) (now (schedule .entry)) (now (cache .entry))) (now (out .entry)) (now (out .exit)) r ⌝ }
+    ensures { λ r. ⌜ Printed (runText (lent (now (memory .entry)) (now (states .entry)) (now (schedule .entry))) (now (cache .entry))) (now (out .entry)) (now (out .exit)) r ⌝ }
 {
     match engine::fast::fast_run(memory, states, schedule, cache) {
-        Answer::Ran(counts) => {
-            let printed = Counts {
-                executed: counts.executed,
-                raised: counts.raised,
-                reused: counts.reused,
-            };
-            report::write_result(out, printed, states)
-        }
+        Answer::Ran(counts) => report::write_result(out, counts, states),
         // Cannot be: what a good card asks for is accepted.
         Answer::Refused(_) => Written::TooSmall,
     }
@@ -103,7 +86,7 @@ pub fn run_card(card: &[u8], out: &mut [u8]) -> Written
     if out.len() < ROOM {
         return Written::TooSmall;
     }
-    let mut image = [0u8; IMAGE];
+    let mut image = [0u8; job::IMAGE];
     match job::read_job(card, &mut image) {
         Reading::Good(job) => print_job(card, job, &mut image, out),
         Reading::Bad(cause, line) => print_refusal(out, cause, line),

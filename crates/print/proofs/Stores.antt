@@ -2,27 +2,16 @@
 use mathlib.Core.Path.{_≡_, refl, ap, sym, _∙_}
 use mathlib.Core.List.{List, [], _∷_, _++_}
 use Prim.Native.Nat.{ℕ, zero, suc, _+_, _-_, _/_, _%_, _≤_, _<_}
-use native.Mathlib.Nat.{add-zero, add-suc, suc-add, not-suc-le-zero}
+use native.Mathlib.Nat.{not-suc-le-zero}
 use native.Mathlib.Numerals.{add-one}
 use native.Mathlib.Omega.{arith}
 use lib.ListN.{length, drop, getD, set, length-append}
-use lib.Seq.{sets, length-sets, drop-cons, set-comm}
+use lib.Seq.{sets, length-sets, drop-cons}
 use Rattle.text.specs.Digits.{glyph}
+use Rattle.text.proofs.Stores.{sets-append, sets-set}
 use Rattle.print.specs.Digits.{digits}
-use Rattle.print.specs.Put.{Put}
+use Rattle.print.specs.Inner.{Put}
 use Rattle.print.proofs.Places.{length-digits}
-
--- what is stored in two parts
-pub sets-append : (l : List ℕ) (i : ℕ) (s t : List ℕ) → sets l i (s ++ t) ≡ sets (sets l i s) (i + length s) t
-sets-append l i [] t = rw add-zero
-sets-append l i (x ∷ s) t = rw (add-suc, ← suc-add) (sets-append (set l i x) (suc i) s t)
-
--- a store past a text may go first
-pub sets-set : (l : List ℕ) (i : ℕ) (s : List ℕ) (j x : ℕ) → i + length s ≤ j → sets (set l j x) i s ≡ set (sets l i s) j x
-sets-set l i [] j x h = refl
-sets-set l i (y ∷ s) j x h =
-    let d : i ≡ j → ⊥ = λ e. omega arith in
-    ap (λ m. sets m (suc i) s) (set-comm l j i x y (λ e. d (sym e))) ∙ sets-set (set l i y) (suc i) s j x (omega arith)
 
 pub put-of : (before : List ℕ) (at : ℕ) (text after : List ℕ) (next : ℕ) → after ≡ sets before at text → next ≡ at + length text →
     Put before at text after next

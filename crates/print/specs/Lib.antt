@@ -1,2 +1,3 @@
+-- Digits: document 01. Inner serves the code.
 pub mod Digits
-pub mod Put
+pub mod Inner

@@ -4,7 +4,7 @@ ghost use mathlib.Core.List.{_++_};
 ghost use Prim.Native.Nat.{_+_, _≤_, _<_};
 ghost use lib.ListN.{length};
 ghost use Rattle.print.specs.Digits.{digits, decimalPlaces, decimal, hexadecimal};
-ghost use Rattle.print.specs.Put.{Put};
+ghost use Rattle.print.specs.Inner.{Put};
 
 // Each writer below puts its text into out from at on and returns the place past it.
 

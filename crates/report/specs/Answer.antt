@@ -4,7 +4,7 @@ use Prim.Native.Nat.{ℕ, _+_, _*_}
 use lib.Dec.{ltb}
 use lib.ListN.{length, drop}
 use Rattle.bits.specs.Choice.{if_then_else_}
-use Rattle.report.specs.State.{registers}
+use Rattle.report.specs.Result.{registers}
 use Rattle.report.specs.declared.Written.{Written}
 use Rattle.report.specs.declared.Written.the-variants.{Bytes, TooSmall}
 

@@ -1,4 +1,3 @@
--- What a run prints: Result transcribes document 01, State says where the words that it prints stand, Answer what the writers do with the text.
-pub mod Answer
+-- Result: document 01. Answer: what the two writers do with the text.
 pub mod Result
-pub mod State
+pub mod Answer

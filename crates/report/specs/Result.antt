@@ -9,8 +9,7 @@ use Rattle.bits.specs.Choice.{if_then_else_}
 use Rattle.text.specs.Ascii.{ascii}
 use Rattle.print.specs.Digits.{decimal, hexadecimal}
 use Rattle.effect.specs.State.{stateWords, pcAt, delayAt, srAt, modeAt}
-use Rattle.report.specs.State.{registers}
-use Rattle.report.specs.declared.Counts.{Counts}
+use Rattle.engine.specs.declared.answer.Counts.{Counts}
 
 -- a key, and its value: in decimal, or as a word of "eight lower-case hexadecimal digits"
 abbrev pub keyedDecimal : String → ℕ → List ℕ
@@ -43,6 +42,10 @@ registerLine number value = if eqb value 0 then [] else keyedDecimal "r" number 
 unfoldable pub registerLines : ℕ → List ℕ → List ℕ
 registerLines number [] = []
 registerLines number (value ∷ values) = registerLine number value ++ registerLines (suc number) values
+
+-- "0–31: r0–r31."
+abbrev pub registers : ℕ
+registers = 32
 
 -- a core's line, and its registers
 unfoldable pub coreText : ℕ → List ℕ → List ℕ

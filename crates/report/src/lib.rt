@@ -4,7 +4,7 @@ ghost use mathlib.Core.List.{_++_};
 ghost use Prim.Native.Nat.{_+_, _≤_};
 ghost use lib.ListN.{length};
 ghost use Rattle.print.specs.Digits.{decimal};
-ghost use Rattle.print.specs.Put.{Put};
+ghost use Rattle.print.specs.Inner.{Put};
 ghost use Rattle.effect.specs.State.{stateWords};
 ghost use Rattle.report.specs.Result.{lineFeed, countLines, coreLine, registerLine, registerLines, coreText, coreTexts, cores as coresOf, resultText, refusalText};
 ghost use Rattle.report.specs.Answer.{answer, written, countsRoom, resultRoom, refusalRoom};
@@ -13,23 +13,17 @@ use effect::state::MODE;
 use effect::state::PC;
 use effect::state::SR;
 use effect::state::STATE_WORDS;
+use engine::answer::Counts;
 
 // How many words of a core's state are registers.
 const REGISTERS: usize = 32;
 
 // The bytes that a writer asks for: for a result besides its cores, for each core, and for a refusal.
-const ENDS_ROOM: usize = 60;
+pub const ENDS_ROOM: usize = 60;
 
-const CORE_ROOM: usize = 499;
+pub const CORE_ROOM: usize = 83 + REGISTERS * 13;
 
 const REFUSAL_ROOM: usize = 35;
-
-// The counts that a run reports.
-pub struct Counts {
-    pub executed: u32,
-    pub raised: u32,
-    pub reused: u32,
-}
 
 // How many bytes were written; or that the bytes lent are too few for the longest text, and nothing was written.
 pub enum Written {

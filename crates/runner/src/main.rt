@@ -1,7 +1,7 @@
 // The runner: a run card on standard input, what it prints on standard output, and what went wrong on standard error.
 ghost use Prim.Native.Nat.{_≤_};
 ghost use lib.ListN.{length};
-ghost use Rattle.runner.specs.Input.{Within, More};
+ghost use Rattle.runner.specs.Inner.{Within, More};
 use libc::STDERR_FILENO;
 use libc::STDIN_FILENO;
 use libc::STDOUT_FILENO;

@@ -15,32 +15,12 @@ use Rattle.bits.proofs.Tests.{everywhere, within as at-each}
 use Rattle.text.specs.Digits.{digit}
 use Rattle.text.specs.Numbers.{number, decimal}
 use Rattle.text.specs.Lines.{Line, ended, cut, onto, lines, begins, Entry, entry, missing, entryOf}
-use Rattle.text.specs.Places.{lineLength, lineEnd}
+use Rattle.text.specs.Inner.{lineLength, lineEnd}
 use Rattle.text.specs.declared.Parsed.the-variants.{Number, Nothing}
 
--- the digits by ranges of bytes: at each of n bytes from low on, f is the digit
-digits-are : (f : ℕ → ℕ) (low n : ℕ) → T (everywhere (λ b. eqb (f b) (digit b)) low n) → (b : ℕ) → low ≤ b → b < low + n → f b ≡ digit b
+-- the digits by a range of bytes: at each of n bytes from low on, f is the digit
+pub digits-are : (f : ℕ → ℕ) (low n : ℕ) → T (everywhere (λ b. eqb (f b) (digit b)) low n) → (b : ℕ) → low ≤ b → b < low + n → f b ≡ digit b
 digits-are f low n t b h k = eqb→eq (f b) (digit b) (at-each (λ b. eqb (f b) (digit b)) low n t b h k)
-
-pub digit-low : (b : ℕ) → b < 48 → 16 ≡ digit b
-unfolding digit
-digit-low b h = digits-are (λ _. 16) 0 48 tt b (omega arith) h
-
-pub digit-decimal : (b : ℕ) → 48 ≤ b → b ≤ 57 → b - 48 ≡ digit b
-unfolding digit
-digit-decimal b h k = digits-are (λ b. b - 48) 48 10 tt b h (omega arith)
-
-pub digit-between : (b : ℕ) → 57 < b → b < 97 → 16 ≡ digit b
-unfolding digit
-digit-between b h k = digits-are (λ _. 16) 58 39 tt b (omega arith) (omega arith)
-
-pub digit-letter : (b : ℕ) → 97 ≤ b → b ≤ 102 → b - 87 ≡ digit b
-unfolding digit
-digit-letter b h k = digits-are (λ b. b - 87) 97 6 tt b h (omega arith)
-
-pub digit-high : (b : ℕ) → 102 < b → b < 256 → 16 ≡ digit b
-unfolding digit
-digit-high b h k = digits-are (λ _. 16) 103 153 tt b (omega arith) (omega arith)
 
 module _ (base v i : ℕ) (t : List ℕ) where
   pub number-step : (d : ℕ) → i < length t → d ≡ digit (getD t i 0) → d < base → number base v (drop i t) ≡ number base (v * base + d) (drop (i + 1) t)

@@ -5,7 +5,7 @@ ghost use lib.ListN.{length, drop};
 ghost use Rattle.text.specs.Digits.{glyph as glyphOf, digit as digitOf};
 ghost use Rattle.text.specs.Numbers.{number as numberOf, decimal as decimalOf, hexadecimal as hexadecimalOf};
 ghost use Rattle.text.specs.Lines.{begins as beginsOf, lines, entryOf};
-ghost use Rattle.text.specs.Places.{lineEnd, foundIn, Inside};
+ghost use Rattle.text.specs.Inner.{lineEnd, foundIn, Inside};
 
 // What a text says: a number, or nothing.
 pub enum Parsed {

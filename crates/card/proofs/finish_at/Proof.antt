@@ -1,6 +1,6 @@
 use mathlib.Core.Path.{refl, _∙_}
 use borrow.Author.Tests.{eq-eqb, ne-eqb, le-leb, lt-leb}
-use Rattle.card.specs.Reader.{lastLines}
+use Rattle.card.specs.Inner.{lastLines}
 use borrow.Author.Needs.{needs}
 use Rattle.card.proofs.finish_at.Statement.{statement}
 use Rattle.card.proofs.finish_at.Tie as tie
@@ -24,7 +24,10 @@ enum-known-reached-2 c = search needs
 
 returns-3 : tie.Need-returns-3
 unfolding lastLines
-returns-3 c = rw (c .before .before .before .before .before .before .reached .given .1) (c .word-lines .ensures ∙ simp (le-leb _ _ (c .before .before .before .before .if1 .left), eq-eqb _ _ (c .before .before .if2 .left)))
+returns-3 c =
+    let short = le-leb _ _ (c .before .before .before .before .if1 .left) in
+    let read = eq-eqb _ _ (c .before .before .if2 .left) in
+    rw (c .before .before .before .before .before .before .reached .given .1) (c .word-lines .ensures ∙ simp (short, read))
 
 returns-4 : tie.Need-returns-4
 returns-4 c = rw (c .before .reached2 .given .1) refl

@@ -17,13 +17,21 @@ rem-if3 : tie.Need-rem-if3
 rem-if3 c = search needs
 
 returns-3 : tie.Need-returns-3
-returns-3 c = (simp (c .before .before .before .before .before .before .before .v .given .1, le-leb _ _ (c .before .before .before .before .if1 .left), le-leb _ _ (c .before .before .if2 .left), eq-eqb _ _ (c .if3 .taken)), refl)
+returns-3 c =
+    let v = c .before .before .before .before .before .before .before .v .given .1 in
+    let low = le-leb _ _ (c .before .before .before .before .if1 .left) in
+    let high = le-leb _ _ (c .before .before .if2 .left) in
+    (simp (v, low, high, eq-eqb _ _ (c .if3 .taken)), refl)
 
 enum-told : tie.Need-enum-told
 enum-told c = search needs
 
 returns-4 : tie.Need-returns-4
-returns-4 c = (simp (c .before .before .before .before .before .before .before .v .given .1, le-leb _ _ (c .before .before .before .before .if1 .left), le-leb _ _ (c .before .before .if2 .left), ne-eqb _ _ (c .if3 .left)), tt)
+returns-4 c =
+    let v = c .before .before .before .before .before .before .before .v .given .1 in
+    let low = le-leb _ _ (c .before .before .before .before .if1 .left) in
+    let high = le-leb _ _ (c .before .before .if2 .left) in
+    (simp (v, low, high, ne-eqb _ _ (c .if3 .left)), tt)
 
 returns-5 : tie.Need-returns-5
 returns-5 c = (simp (c .enum-told .given .1), tt)

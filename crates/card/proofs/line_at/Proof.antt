@@ -1,6 +1,6 @@
 use mathlib.Core.Path.{_∙_}
 use borrow.Author.Tests.{ne-eqb}
-use Rattle.card.specs.Reader.{headerLine}
+use Rattle.card.specs.Inner.{headerLine}
 use borrow.Author.Needs.{needs}
 use Rattle.card.proofs.line_at.Statement.{statement}
 use Rattle.card.proofs.line_at.Tie as tie
@@ -75,7 +75,9 @@ returns-8 : tie.Need-returns-8
 unfolding headerLine
 returns-8 c =
     let r = c .match2 .rest in
-    rw (c .before .before .reached .given .1) (simp (ne-eqb _ _ (r .1), ne-eqb _ _ (r .0 .1), ne-eqb _ _ (r .0 .0 .1), ne-eqb _ _ (r .0 .0 .0 .1), ne-eqb _ _ (r .0 .0 .0 .0 .1), ne-eqb _ _ (r .0 .0 .0 .0 .0 .1)))
+    let later = r .0 .0 .0 in
+    rw (c .before .before .reached .given .1)
+    (simp (ne-eqb _ _ (r .1), ne-eqb _ _ (r .0 .1), ne-eqb _ _ (r .0 .0 .1), ne-eqb _ _ (later .1), ne-eqb _ _ (later .0 .1), ne-eqb _ _ (later .0 .0 .1)))
 
 pub line-at-spec : {M : Type 1} → statement M
 line-at-spec =

@@ -4,7 +4,7 @@ use lib.ListN.{drop}
 use native.Mathlib.Omega.{arith}
 use Rattle.text.specs.Lines.{lines}
 use Rattle.card.specs.Card.{limited as limitedOf, followed}
-use Rattle.card.specs.Places.{numberText}
+use Rattle.card.specs.Inner.{numberText}
 use Rattle.card.proofs.Laws.{step-of, ahead, first-found}
 use borrow.Author.Needs.{needs}
 use Rattle.card.proofs.number_at.Statement.{statement}
@@ -42,10 +42,11 @@ returns c =
     let a = c .before .before .before .before .before .before .before .before .before .args in
     let f = a .form in
     let n = c .before .before .before .before .from .given .0 .1 .0 + 1 in
-    let i = rw (c .before .before .before .before .from .given .1) at (c .before .before .before .before .before .before .find-entry .ensures .1) in (
+    let found = c .before .before .before .before .before .before .find-entry .ensures in
+    let i = rw (c .before .before .before .before .from .given .1) at (found .1) in (
       step-of (a .card .now) n (c .limited .result) (c .limited .ensures .1)
           ∙ ap (followed (lines (drop n (a .card .now)))) (c .limited .ensures .0 ∙ ap (limitedOf (f .low) (f .high) (f .multiple)) (c .before .parsed .ensures))
-          ∙ sym (first-found (a .key .now) (numberText f) (a .card .now) _ (c .before .before .before .before .before .before .find-entry .ensures .0) (c .before .before .before .before .from .given .1)),
+          ∙ sym (first-found (a .key .now) (numberText f) (a .card .now) _ (found .0) (c .before .before .before .before .from .given .1)),
       ahead (a .card .now) (a .at) n (c .limited .result) (c .limited .ensures .1) (omega arith) (omega arith),
     )
 

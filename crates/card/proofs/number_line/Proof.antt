@@ -1,8 +1,7 @@
 use Prim.Native.Nat.{_+_}
 use mathlib.Core.Path.{ap, _∙_}
 use Rattle.card.specs.Card.{good}
-use Rattle.card.specs.Places.{numberText}
-use Rattle.card.specs.Reader.{putOf}
+use Rattle.card.specs.Inner.{numberText, putOf}
 use Rattle.card.proofs.Laws.{header-good, header-bad}
 use borrow.Author.Needs.{needs}
 use Rattle.card.proofs.number_line.Statement.{statement}

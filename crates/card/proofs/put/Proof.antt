@@ -1,5 +1,5 @@
 use mathlib.Core.Path.{ap, sym}
-use Rattle.card.specs.Reader.{putOf}
+use Rattle.card.specs.Inner.{putOf}
 use borrow.Author.Needs.{needs}
 use Rattle.card.proofs.put.Statement.{statement}
 use Rattle.card.proofs.put.Tie as tie

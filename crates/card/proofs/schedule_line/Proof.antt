@@ -1,11 +1,6 @@
-use Prim.Native.Nat.{_+_, _-_}
-use mathlib.Core.Path.{ap, sym, _∙_}
-use lib.ListN.{take, drop}
 use Rattle.text.specs.Ascii.{ascii}
-use Rattle.text.specs.Lines.{lines}
-use Rattle.card.specs.Card.{followed, schedule}
-use Rattle.card.specs.Places.{scheduleIn}
-use Rattle.card.proofs.Laws.{first-found, schedule-good, schedule-bad}
+use Rattle.card.specs.Card.{schedule}
+use Rattle.card.proofs.Laws.{first-found, schedule-said, schedule-good, schedule-bad}
 use borrow.Author.Needs.{needs}
 use Rattle.card.proofs.schedule_line.Statement.{statement}
 use Rattle.card.proofs.schedule_line.Tie as tie
@@ -35,10 +30,16 @@ enum-told : tie.Need-enum-told
 enum-told c = search needs
 
 sub-job : tie.Need-sub-job
-sub-job c = let i = rw (c .before .before .before .before .before .before .from .given .1) at (c .before .before .before .before .before .before .before .before .find-entry .ensures .1) in search needs
+sub-job c =
+    let s = c .before .before .before .before .before .before in
+    let i = rw (s .from .given .1) at (s .before .before .find-entry .ensures .1) in
+    search needs
 
 add-at : tie.Need-add-at
-add-at c = let i = rw (c .before .before .before .before .before .before .from .given .1) at (c .before .before .before .before .before .before .before .before .find-entry .ensures .1) in search needs
+add-at c =
+    let s = c .before .before .before .before .before .before in
+    let i = rw (s .from .given .1) at (s .before .before .find-entry .ensures .1) in
+    search needs
 
 add-line : tie.Need-add-line
 add-line c = search needs
@@ -51,24 +52,19 @@ enum-told-2 c = search needs
 
 returns : tie.Need-returns
 returns c =
-    let a = c .before .before .before .before .before .before .before .before .before .before .before .before .args in
-    let card = a .card .now in
-    let g = c .before .before .before .before .before .before .before .from .given in
-    let t = take (g .0 .1 .0 - g .0 .0) (drop (g .0 .0) card) in
-    let s = schedule (a .p .job .cores) in
-    let e = first-found (ascii "schedule=") s card _ (c .before .before .before .before .before .before .before .before .before .find-entry .ensures .0) (g .1) ∙ ap (followed (lines (drop (g .0 .1 .0 + 1) card))) (sym (c .before .before .before .check-schedule .ensures) ∙ ap (scheduleIn t) (c .before .enum-told .given .1)) in
-    let i = rw (g .1) at (c .before .before .before .before .before .before .before .before .before .find-entry .ensures .1) in
-    schedule-good card (a .p) (i .0) (i .1) (i .2) (i .3) e
+    let s = c .before .before .before .before .before .before .before in
+    let found = s .before .before .find-entry .ensures in
+    let a = s .before .before .before .before .before .args in
+    let i = rw (s .from .given .1) at (found .1) in
+    schedule-good (a .card .now) (a .p) (i .0) (i .1) (i .2) (i .3)
+    (schedule-said (a .card .now) (a .p) (found .0) (s .from .given .1) (c .before .before .before .check-schedule .ensures) (c .before .enum-told .given .1))
 
 returns-2 : tie.Need-returns-2
 returns-2 c =
-    let a = c .before .before .before .before .before .before .before .before .before .before .before .before .args in
-    let card = a .card .now in
-    let g = c .before .before .before .before .before .before .before .from .given in
-    let t = take (g .0 .1 .0 - g .0 .0) (drop (g .0 .0) card) in
-    let s = schedule (a .p .job .cores) in
-    let e = first-found (ascii "schedule=") s card _ (c .before .before .before .before .before .before .before .before .before .find-entry .ensures .0) (g .1) ∙ ap (followed (lines (drop (g .0 .1 .0 + 1) card))) (sym (c .before .before .before .check-schedule .ensures) ∙ ap (scheduleIn t) (c .before .cause .given .1)) in
-    schedule-bad card (a .p) e
+    let s = c .before .before .before .before .before .before .before in
+    let a = s .before .before .before .before .before .args in
+    schedule-bad (a .card .now) (a .p)
+    (schedule-said (a .card .now) (a .p) (s .before .before .find-entry .ensures .0) (s .from .given .1) (c .before .before .before .check-schedule .ensures) (c .before .cause .given .1))
 
 returns-3 : tie.Need-returns-3
 returns-3 c =

@@ -1,7 +1,10 @@
+use Prim.Native.Nat.{ℕ}
 use mathlib.Core.Path.{ap, _∙_}
 use Rattle.card.specs.Answer.{wordsAt}
-use Rattle.job.specs.Laid.{laid}
-use Rattle.job.specs.Job.{bytes}
+use lib.ListN.{replicate, length-replicate}
+use Rattle.job.specs.Job.{filled}
+use Rattle.job.proofs.Laws.{filled-image}
+use native.Mathlib.Omega.{arith}
 use borrow.Author.Needs.{needs}
 use Rattle.job.proofs.lay_out.Statement.{statement}
 use Rattle.job.proofs.lay_out.Tie as tie
@@ -21,7 +24,11 @@ same-length c = search needs
 returns : tie.Need-returns
 returns c =
     let a = c .before .before .before .before .before .before .before .before .before .before .before .args in
-    c .before .before .fill .ensures ∙ ap (λ k. laid k 0 (bytes (wordsAt (a .card .now) (a .job)))) (c .before .before .before .before .before .before .zero .ensures)
+    let ws = wordsAt (a .card .now) (a .job) in
+    let l = length-replicate {A = ℕ} (a .job .memory) 0 in
+    c .before .before .fill .ensures
+    ∙ ap (λ m. filled m 0 ws) (c .before .before .before .before .before .before .zero .ensures)
+    ∙ filled-image (a .image .now) (replicate (a .job .memory) 0) ws (omega arith) (omega arith)
 
 pub lay-out-spec : {M : Type 1} → statement M
 lay-out-spec = tie.close (tie.spec cast-memory zero-requires fill-requires same-length returns)

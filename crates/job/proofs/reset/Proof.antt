@@ -1,46 +1,54 @@
 use Prim.Native.Nat.{_-_, _*_, _≤_}
 use mathlib.Core.Path.{_≡_, refl, sym, ap, _∙_}
 use native.Mathlib.Omega.{arith}
-use lib.ListN.{length}
-use Rattle.job.specs.Laid.{laid}
+use lib.ListN.{length, set, take, length-set}
+use lib.Seq.{sets, take-all}
 use Rattle.effect.specs.State.{stateWords}
-use Rattle.job.specs.Job.{resetState, resetStates}
-use Rattle.job.proofs.Laws.{states-step, length-laid, laid-none}
+use Rattle.job.specs.Job.{resetStates}
+use Rattle.job.proofs.Laws.{length-states, word-reset, reset-step}
 use borrow.Author.Needs.{needs}
 use Rattle.job.proofs.reset.Statement.{statement}
 use Rattle.job.proofs.reset.Tie as tie
 
 abbrev Inv-loop : tie.InvT-loop
-Inv-loop states₀ n entry i₀ at₀ states i at = (states ≡ laid states₀ 0 (resetStates entry i)) × (at ≡ i * stateWords) × (i ≤ n) × (length states ≡ length states₀)
+Inv-loop states₀ n entry words i₀ states i = (states ≡ sets states₀ 0 (take i (resetStates entry n))) × (i ≤ words) × (length states ≡ length states₀)
 
 abbrev μ-loop : tie.MeasureT-loop
-μ-loop states₀ n entry i₀ at₀ states i at = n - i
+μ-loop states₀ n entry words i₀ states i = words - i
+
+mul-words : tie.Need-mul-words Inv-loop μ-loop
+mul-words c = search needs
 
 loop-holds : tie.Need-loop-holds Inv-loop μ-loop
-unfolding resetStates
-loop-holds c = (sym (laid-none _ 0), omega arith, omega arith, refl)
+loop-holds c = (refl, omega arith, refl)
 
-reset-state-requires : tie.Need-reset-state-requires Inv-loop μ-loop
-reset-state-requires c κs = omega arith
+reset-word-requires : tie.Need-reset-word-requires Inv-loop μ-loop
+reset-word-requires c κs = omega arith
+
+mul-states : tie.Need-mul-states Inv-loop μ-loop
+mul-states c = search needs
+
+slice-write-states : tie.Need-slice-write-states Inv-loop μ-loop
+slice-write-states c = search needs
 
 add-i : tie.Need-add-i Inv-loop μ-loop
 add-i c = search needs
-
-add-at : tie.Need-add-at Inv-loop μ-loop
-add-at c = search needs
 
 loop-less : tie.Need-loop-less Inv-loop μ-loop
 loop-less c = search needs
 
 loop-again : tie.Need-loop-again Inv-loop μ-loop
 loop-again c =
-    let l = c .before .before .before .before .before .loop in
-    let a = c .before .before .before .before .before .before .before .args in
-    let r = c .before .before .reset-state .ensures in (
-      r ∙ ap (λ k. laid k (l .at) (resetState (a .entry))) (l .inv .0) ∙ states-step (a .states .now) (a .entry) (l .i) (l .at) (l .inv .1) (omega arith),
+    let l = c .before .before .loop in
+    let a = c .before .before .before .before .args in
+    let s = resetStates (a .entry) (a .n) in
+    let n : length s ≡ a .n * stateWords = length-states (a .entry) (a .n) in
+    let e = c .reset-word .ensures ∙ sym (word-reset (a .entry) (a .n) (l .i) (omega arith)) in (
+      ap (λ k. set k (l .i) (c .reset-word .result)) (l .inv .0)
+          ∙ ap (set (sets (a .states .now) 0 (take (l .i) s)) (l .i)) e
+          ∙ reset-step (a .states .now) s (l .i) (omega arith),
       omega arith,
-      omega arith,
-      ap length r ∙ length-laid (l .states) (l .at) (resetState (a .entry)) (omega arith) ∙ l .inv .3,
+      simp length-set (l .inv .2),
     )
 
 same-length : tie.Need-same-length Inv-loop μ-loop
@@ -50,8 +58,8 @@ returns : tie.Need-returns Inv-loop μ-loop
 returns c =
     let l = c .before .loop in
     let a = c .before .before .before .args in
-    let e : l .i ≡ a .n = omega arith in
-    l .inv .0 ∙ ap (λ k. laid (a .states .now) 0 (resetStates (a .entry) k)) e
+    let n : length (resetStates (a .entry) (a .n)) ≡ a .n * stateWords = length-states (a .entry) (a .n) in
+    l .inv .0 ∙ ap (sets (a .states .now) 0) (take-all (l .i) (resetStates (a .entry) (a .n)) (omega arith))
 
 pub reset-spec : {M : Type 1} → statement M
 reset-spec =
@@ -59,10 +67,12 @@ reset-spec =
     (tie.spec
     Inv-loop
     μ-loop
+    mul-words
     loop-holds
-    reset-state-requires
+    reset-word-requires
+    mul-states
+    slice-write-states
     add-i
-    add-at
     loop-less
     loop-again
     same-length

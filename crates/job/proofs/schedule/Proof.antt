@@ -5,15 +5,15 @@ use native.Mathlib.Omega.{arith}
 use native.Mathlib.Nat.{mod-lt}
 use lib.ListN.{length, take, drop, set, length-set}
 use Rattle.text.specs.Digits.{digit}
-use Rattle.job.specs.Laid.{laid}
+use lib.Seq.{sets}
 use Rattle.job.specs.Job.{entries}
-use Rattle.job.proofs.Laws.{entries-step, digit-at, laid-none}
+use Rattle.job.proofs.Laws.{entries-step, digit-at}
 use borrow.Author.Needs.{needs}
 use Rattle.job.proofs.schedule.Statement.{statement}
 use Rattle.job.proofs.schedule.Tie as tie
 
 abbrev Inv-loop : tie.InvT-loop
-Inv-loop card out₀ from digits steps i₀ out i = (out ≡ laid out₀ 0 (entries (map digit (take digits (drop from card))) i)) × (i ≤ steps) × (length out ≡ length out₀)
+Inv-loop card out₀ from digits steps i₀ out i = (out ≡ sets out₀ 0 (entries (map digit (take digits (drop from card))) i)) × (i ≤ steps) × (length out ≡ length out₀)
 
 abbrev μ-loop : tie.MeasureT-loop
 μ-loop card out₀ from digits steps i₀ out i = steps - i
@@ -23,7 +23,7 @@ cast-steps c = search needs
 
 loop-holds : tie.Need-loop-holds Inv-loop μ-loop
 unfolding entries
-loop-holds c = (sym (laid-none _ 0), omega arith, refl)
+loop-holds c = (refl, omega arith, refl)
 
 rem-digit : tie.Need-rem-digit Inv-loop μ-loop
 rem-digit c = search needs
@@ -52,8 +52,8 @@ loop-again c =
     let a = c .before .before .before .before .before .before .before .args in
     let s = map digit (take (a .job .digits) (drop (a .job .schedule) (a .card .now))) in (
       ap (λ k. set k (l .i) (c .digit .result)) (l .inv .0)
-          ∙ ap (set (laid (a .out .now) 0 (entries s (l .i))) (l .i)) (c .digit .ensures ∙ sym (digit-at (a .card .now) (a .job .schedule) (a .job .digits) (l .i) (omega arith) (omega arith)))
-          ∙ entries-step (a .out .now) s (l .i) (omega arith),
+          ∙ ap (set (sets (a .out .now) 0 (entries s (l .i))) (l .i)) (c .digit .ensures ∙ sym (digit-at (a .card .now) (a .job .schedule) (a .job .digits) (l .i) (omega arith) (omega arith)))
+          ∙ entries-step (a .out .now) s (l .i),
       omega arith,
       simp length-set (l .inv .2),
     )
@@ -66,7 +66,7 @@ returns c =
     let l = c .before .loop in
     let a = c .before .before .before .before .before .args in
     let e : l .i ≡ a .job .steps = omega arith in
-    l .inv .0 ∙ ap (λ k. laid (a .out .now) 0 (entries (map digit (take (a .job .digits) (drop (a .job .schedule) (a .card .now)))) k)) e
+    l .inv .0 ∙ ap (λ k. sets (a .out .now) 0 (entries (map digit (take (a .job .digits) (drop (a .job .schedule) (a .card .now)))) k)) e
 
 pub schedule-spec : {M : Type 1} → statement M
 schedule-spec =

@@ -31,12 +31,13 @@ same-length-4 c = search needs
 
 returns : tie.Need-returns
 returns c =
-    let f = c .before .before .before .before .before .before .before .before .before .before .before .before .before .before .fast-run in
+    let f = c .before .before .before .before .before .before .before .before .before .before .before .before .before .before in
+    let start = f .before .before .before .before .before .before .before .before .before in
     let w = c .before .before .write-result in
-    let z = c .before .before .before .before .before .before .before .before .before .before .before .before .before .before .before .before .before .before .before .before .before .before .before .pre .0 in
+    let z = start .pre .0 in
     let g = c .before .before .before .before .before .before .counts .given in
-    printed-as (run-text (f .ensures) z (g .0 .0) (g .1))
-    (printed (resultRoom (cores (f .last .1 .0))) _ _ _ _ (c .before .before .before .before .before .before .before .before .before .before .before .before .before .before .before .before .before .before .before .before .before .before .before .pre .1) (run-room (f .ensures) z (f .kept .1 .0)) (w .ensures .0) (w .ensures .1) (w .kept .0))
+    printed-as (run-text (f .fast-run .ensures) z (g .0 .0) (g .1))
+    (printed (resultRoom (cores (f .fast-run .last .1 .0))) _ _ _ _ (start .pre .1) (run-room (f .fast-run .ensures) z (f .fast-run .kept .1 .0)) (w .ensures .0) (w .ensures .1) (w .kept .0))
 
 same-length-5 : tie.Need-same-length-5
 same-length-5 c = search needs
@@ -48,7 +49,9 @@ same-length-7 : tie.Need-same-length-7
 same-length-7 c = search needs
 
 returns-2 : tie.Need-returns-2
-returns-2 c = never-refused (c .before .before .before .before .before .before .before .before .fast-run .ensures) (c .before .before .before .before .before .before .before .before .before .before .before .before .before .before .before .before .before .pre .0) (c .enum-told .given .0 .0) (c .enum-told .given .1)
+returns-2 c =
+    let f = c .before .before .before .before .before .before .before .before in
+    never-refused (f .fast-run .ensures) (f .before .before .before .before .before .before .before .before .before .pre .0) (c .enum-told .given .0 .0) (c .enum-told .given .1)
 
 pub print-run-spec : {M : Type 1} → statement M
 print-run-spec =

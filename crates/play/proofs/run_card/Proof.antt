@@ -1,5 +1,6 @@
 use mathlib.Core.Path.{sym, _∙_}
 use native.Mathlib.Omega.{arith}
+use Rattle.job.specs.Job.{imageLength}
 use Rattle.play.proofs.Parts.{length-zeros}
 use Rattle.play.proofs.Printing.{no-room, printed-as, bad-output, good-output, ready}
 use borrow.Author.Needs.{needs}
@@ -10,7 +11,7 @@ returns : tie.Need-returns
 returns c = no-room _ _ (omega arith)
 
 slice-aggregate-read-job : tie.Need-slice-aggregate-read-job
-slice-aggregate-read-job c = sym (length-zeros 16384)
+slice-aggregate-read-job c = sym (length-zeros imageLength)
 
 read-job-requires : tie.Need-read-job-requires
 read-job-requires c κs = search needs
@@ -19,10 +20,13 @@ enum-known-job : tie.Need-enum-known-job
 enum-known-job c = search needs
 
 slice-aggregate-print-job : tie.Need-slice-aggregate-print-job
-slice-aggregate-print-job c = sym (c .before .before .before .before .before .read-job .kept .1 .0 ∙ length-zeros 16384)
+slice-aggregate-print-job c = sym (c .before .before .before .before .before .read-job .kept .1 .0 ∙ length-zeros imageLength)
 
 print-job-requires : tie.Need-print-job-requires
-print-job-requires c κs = (ready (length-zeros 16384) (c .before .before .before .before .before .before .read-job .ensures) (c .before .before .before .job .given .0 .0) (c .before .before .before .job .given .1) (c .before .before .before .before .before .before .read-job .kept .1 .0 ∙ length-zeros 16384), omega arith)
+print-job-requires c κs =
+    let read = c .before .before .before .before .before .before .read-job in
+    let g = c .before .before .before .job .given in
+    (ready (length-zeros imageLength) (read .ensures) (g .0 .0) (g .1) (read .kept .1 .0 ∙ length-zeros imageLength), omega arith)
 
 enum-known-cause : tie.Need-enum-known-cause
 enum-known-cause c = search needs
@@ -34,13 +38,19 @@ same-length : tie.Need-same-length
 same-length c = search needs
 
 returns-2 : tie.Need-returns-2
-returns-2 c = printed-as (good-output (length-zeros 16384) (c .before .before .before .before .before .before .before .before .before .before .read-job .ensures) (c .before .before .before .before .before .before .before .job .given .0 .0) (c .before .before .before .before .before .before .before .job .given .1)) (c .before .before .before .print-job .ensures)
+returns-2 c =
+    let read = c .before .before .before .before .before .before .before .before .before .before .read-job in
+    let g = c .before .before .before .before .before .before .before .job .given in
+    printed-as (good-output (length-zeros imageLength) (read .ensures) (g .0 .0) (g .1)) (c .before .before .before .print-job .ensures)
 
 same-length-2 : tie.Need-same-length-2
 same-length-2 c = search needs
 
 returns-3 : tie.Need-returns-3
-returns-3 c = printed-as (bad-output (length-zeros 16384) (c .before .before .before .before .before .before .before .before .read-job .ensures) (c .before .before .before .before .before .cause .given .0 .0) (c .before .before .before .before .before .cause .given .0 .1 .0) (c .before .before .before .before .before .cause .given .1)) (c .before .before .print-refusal .ensures)
+returns-3 c =
+    let read = c .before .before .before .before .before .before .before .before .read-job in
+    let g = c .before .before .before .before .before .cause .given in
+    printed-as (bad-output (length-zeros imageLength) (read .ensures) (g .0 .0) (g .0 .1 .0) (g .1)) (c .before .before .print-refusal .ensures)
 
 pub run-card-spec : {M : Type 1} → statement M
 run-card-spec =

@@ -35,11 +35,9 @@ shared-slice-read-put-keyed-word c = omega arith
 put-keyed-word-requires : tie.Need-put-keyed-word-requires
 unfolding coreLine
 put-keyed-word-requires c κs =
-    omega (
-      arith,
-      simp length-append at (c .before .before .before .before .before .before .before .before .before .before .before .before .before .before .before
-          .before .pre .0),
-    )
+    let s = c .before .before .before .before .before .before .before .before in
+    let room = s .before .before .before .before .before .before .before .before .pre .0 in
+    omega (arith, simp length-append at room)
 
 slice-aggregate-put-keyed-decimal-3 : tie.Need-slice-aggregate-put-keyed-decimal-3
 slice-aggregate-put-keyed-decimal-3 c = refl
@@ -53,11 +51,9 @@ cast-put-keyed-decimal-2 c = omega (arith, c .shared-slice-known4 .given 33)
 put-keyed-decimal-requires-3 : tie.Need-put-keyed-decimal-requires-3
 unfolding coreLine
 put-keyed-decimal-requires-3 c κs =
-    omega (
-      arith,
-      simp length-append at (c .before .before .before .before .before .before .before .before .before .before .before .before .before .before .before
-          .before .before .before .before .before .before .before .pre .0),
-    )
+    let s = c .before .before .before .before .before .before .before .before .before .before .before in
+    let room = s .before .before .before .before .before .before .before .before .before .before .before .pre .0 in
+    omega (arith, simp length-append at room)
 
 slice-aggregate-put-keyed-word-2 : tie.Need-slice-aggregate-put-keyed-word-2
 slice-aggregate-put-keyed-word-2 c = refl
@@ -68,11 +64,9 @@ shared-slice-read-put-keyed-word-2 c = omega arith
 put-keyed-word-requires-2 : tie.Need-put-keyed-word-requires-2
 unfolding coreLine
 put-keyed-word-requires-2 c κs =
-    omega (
-      arith,
-      simp length-append at (c .before .before .before .before .before .before .before .before .before .before .before .before .before .before .before
-          .before .before .before .before .before .before .before .before .before .before .before .before .before .pre .0),
-    )
+    let s = c .before .before .before .before .before .before .before .before .before .before .before .before .before .before in
+    let room = s .before .before .before .before .before .before .before .before .before .before .before .before .before .before .pre .0 in
+    omega (arith, simp length-append at room)
 
 slice-aggregate-put-bytes : tie.Need-slice-aggregate-put-bytes
 slice-aggregate-put-bytes c = refl
@@ -80,11 +74,9 @@ slice-aggregate-put-bytes c = refl
 put-bytes-requires : tie.Need-put-bytes-requires
 unfolding coreLine
 put-bytes-requires c κs =
-    omega (
-      arith,
-      simp length-append at (c .before .before .before .before .before .before .before .before .before .before .before .before .before .before .before
-          .before .before .before .before .before .before .before .before .before .before .before .before .before .before .before .before .before .before .pre .0),
-    )
+    let room = c .before .before .before .before .before .before .before .before .before .before .before .before .before .before .before .before
+    .before .before .before .before .before .before .before .before .before .before .before .before .before .before .before .before .before .pre .0 in
+    omega (arith, simp length-append at room)
 
 same-length : tie.Need-same-length
 same-length c = omega arith

@@ -1,8 +1,8 @@
 use mathlib.Core.Path.{ap, sym}
 use Rattle.card.specs.Answer.{refusal}
 use borrow.Author.Needs.{needs}
-use Rattle.play.proofs.refusal_number.Statement.{statement}
-use Rattle.play.proofs.refusal_number.Tie as tie
+use Rattle.card.proofs.number.Statement.{statement}
+use Rattle.card.proofs.number.Tie as tie
 
 enum-told : tie.Need-enum-told
 enum-told c = search needs
@@ -22,8 +22,8 @@ returns-2 c = ap refusal (sym (c .enum-told2 .given .1))
 returns-3 : tie.Need-returns-3
 returns-3 c = ap refusal (sym (c .enum-told3 .given .1))
 
-pub refusal-number-spec : {M : Type 1} → statement M
-refusal-number-spec =
+pub number-spec : {M : Type 1} → statement M
+number-spec =
     tie.close
     (tie.spec
     enum-told
