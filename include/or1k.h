@@ -55,7 +55,7 @@ enum {
 
 /* The bits of SR and ESR; all others are 0. */
 enum {
-    OR1K_SR_SM = 1 << 0,   /* supervisor mode; this bit and the next two are kept, and no instruction heeds them */
+    OR1K_SR_SM = 1 << 0,   /* supervisor mode; an exception sets it and clears the next two, and no instruction heeds the three */
     OR1K_SR_TEE = 1 << 1,  /* tick timer exceptions */
     OR1K_SR_IEE = 1 << 2,  /* interrupt exceptions */
     OR1K_SR_F = 1 << 9,    /* flag */
