@@ -15,5 +15,7 @@ use Rattle.semantics.specs.Commit.{inputs, putValue, putFlow, putStatus, putExc
 use Rattle.marked.specs.Marked.{right, every, marked}
 
 pub all-right : T (every right marked)
-unfolding signed word rows fits firstFit width read immediate entry decode rowOf kindRow fill value immediateBits wordFor candidate encode sum difference fits-signed holds least access loaded stored extend setBit exceptionSR addressDifference onward advances restart raises jump branch load branches loads meaning inputs putValue putFlow putStatus putException ownState clearLink clearLinks statesAfter memoryAfter
+unfolding signed word rows fits firstFit width read immediate entry decode rowOf kindRow fill value immediateBits wordFor candidate encode sum
+    difference fits-signed holds least access loaded stored extend setBit exceptionSR addressDifference onward advances restart raises jump branch load
+    branches loads meaning inputs putValue putFlow putStatus putException ownState clearLink clearLinks statesAfter memoryAfter
 all-right = tt

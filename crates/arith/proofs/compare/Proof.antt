@@ -56,19 +56,23 @@ returns-6 c = simp (c .match .keys6)
 
 returns-7 : tie.Need-returns-7
 unfolding holds
-returns-7 c = signed-lt _ _ _ _ (c .before .before .before .fits .b .fits) (c .before .before .before .fits .a .fits) (c .before .biased .ensures) (c .biased2 .ensures) ∙ simp (c .before .before .match .keys7)
+returns-7 c = let f = c .before .before .before .fits in
+    signed-lt _ _ _ _ (f .b .fits) (f .a .fits) (c .before .biased .ensures) (c .biased2 .ensures) ∙ simp (c .before .before .match .keys7)
 
 returns-8 : tie.Need-returns-8
 unfolding holds
-returns-8 c = signed-le _ _ _ _ (c .before .before .before .fits .b .fits) (c .before .before .before .fits .a .fits) (c .before .biased3 .ensures) (c .biased4 .ensures) ∙ simp (c .before .before .match .keys8)
+returns-8 c = let f = c .before .before .before .fits in
+    signed-le _ _ _ _ (f .b .fits) (f .a .fits) (c .before .biased3 .ensures) (c .biased4 .ensures) ∙ simp (c .before .before .match .keys8)
 
 returns-9 : tie.Need-returns-9
 unfolding holds
-returns-9 c = signed-lt _ _ _ _ (c .before .before .before .fits .a .fits) (c .before .before .before .fits .b .fits) (c .before .biased5 .ensures) (c .biased6 .ensures) ∙ simp (c .before .before .match .keys9)
+returns-9 c = let f = c .before .before .before .fits in
+    signed-lt _ _ _ _ (f .a .fits) (f .b .fits) (c .before .biased5 .ensures) (c .biased6 .ensures) ∙ simp (c .before .before .match .keys9)
 
 returns-10 : tie.Need-returns-10
 unfolding holds
-returns-10 c = signed-le _ _ _ _ (c .before .before .before .fits .a .fits) (c .before .before .before .fits .b .fits) (c .before .biased7 .ensures) (c .biased8 .ensures) ∙ simp (c .before .before .match .keys10)
+returns-10 c = let f = c .before .before .before .fits in
+    signed-le _ _ _ _ (f .a .fits) (f .b .fits) (c .before .biased7 .ensures) (c .biased8 .ensures) ∙ simp (c .before .before .match .keys10)
 
 returns-11 : tie.Need-returns-11
 unfolding holds

@@ -33,7 +33,8 @@ fault-requires c κs = search needs
 returns : tie.Need-returns
 unfolding load effectBy
 returns c = let t = c .before .before .before .before in let a = t .before .before .before .args in
-    answered (a .x) (a .width) (length (a .mem .now)) _ (t .test .result) (t .before .address .ensures) (t .test .ensures) (c .before .before .before .match .keys1) _ _ (simp (c .write .ensures, c .before .load-extended .ensures, t .before .address .ensures))
+    answered (a .x) (a .width) (length (a .mem .now)) _ (t .test .result) (t .before .address .ensures) (t .test .ensures) (c .before .before .before .match .keys1) _ _
+    (simp (c .write .ensures, c .before .load-extended .ensures, t .before .address .ensures))
 
 returns-2 : tie.Need-returns-2
 unfolding load

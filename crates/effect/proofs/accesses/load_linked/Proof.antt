@@ -31,7 +31,8 @@ fault-requires c κs = search needs
 returns : tie.Need-returns
 unfolding loadLinked effectBy
 returns c = let t = c .before .before .before in let a = t .before .before .before .args in
-    answered (a .x) 4 (length (a .mem .now)) _ (t .test .result) (t .before .address .ensures) (t .test .ensures) (c .before .before .match .keys1) _ _ (simp (c .load .ensures .0, t .before .address .ensures))
+    answered (a .x) 4 (length (a .mem .now)) _ (t .test .result) (t .before .address .ensures) (t .test .ensures) (c .before .before .match .keys1) _ _
+    (simp (c .load .ensures .0, t .before .address .ensures))
 
 returns-2 : tie.Need-returns-2
 unfolding loadLinked

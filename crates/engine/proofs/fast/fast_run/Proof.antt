@@ -35,7 +35,8 @@ returns : tie.Need-returns
 returns c =
     let a = c .before .before .before .before .before .before .before .before .before .before .before .before .before .before .before .before .before .before .before .before .args in
     let run = c .before .before .before .before .before .before .run in
-    let accepted = sym (c .before .before .before .before .before .before .before .before .before .before .before .before .check-fast .ensures) ∙ ap verdictNumber (c .before .before .before .before .before .before .before .before .before .before .enum-told .given .1) in
+    let told = c .before .before .before .before .before .before .before .before .before .before in
+    let accepted = sym (told .before .before .check-fast .ensures) ∙ ap verdictNumber (told .enum-told .given .1) in
     fast-ran (lent (now (a .memory)) (now (a .states)) (now (a .schedule))) (now (a .cache)) _ _ _ _ accepted (run .ensures)
     (run .kept .0) (run .kept .1 .0) (run .kept .1 .1 .1 .0)
 

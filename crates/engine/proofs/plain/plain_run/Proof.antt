@@ -35,7 +35,8 @@ returns : tie.Need-returns
 returns c =
     let a = c .before .before .before .before .before .before .before .before .before .before .before .before .before .before .before .before .before .args in
     let run = c .before .before .before .before .before .run in
-    let accepted = sym (c .before .before .before .before .before .before .before .before .before .before .before .check .ensures) ∙ ap verdictNumber (c .before .before .before .before .before .before .before .before .before .enum-told .given .1) in
+    let told = c .before .before .before .before .before .before .before .before .before in
+    let accepted = sym (told .before .before .check .ensures) ∙ ap verdictNumber (told .enum-told .given .1) in
     plain-ran (lent (now (a .memory)) (now (a .states)) (now (a .schedule))) _ _ _ _ accepted (run .ensures)
 
 same-length-3 : tie.Need-same-length-3

@@ -73,10 +73,11 @@ same-length-6 c = search needs
 
 returns-2 : tie.Need-returns-2
 returns-2 c =
-    let a = c .before .before .before .before .before .before .before .before .before .before .before .before .before .before .before .before .before .before .before .before .before .before .before .args in
-    let p = c .before .before .before .before .before .before .before .before .before .before .before .before .before .before .before .before .before .before .before .before .before .before .before .pre in
-    let pc = c .before .before .before .before .before .before .before .before .before .before .before .before .before .before .before .before .before .before .of-u32 in
-    let fetch = c .before .before .before .before .before .before .before .before .before .before .before .before .before .before .before .fetch .ensures (a .board) in
+    let t = c .before .before .before .before .before .before .before .before .before .before .before .before .before .before .before in
+    let a = t .before .before .before .before .before .before .before .before .args in
+    let p = t .before .before .before .before .before .before .before .before .pre in
+    let pc = t .before .before .before .of-u32 in
+    let fetch = t .fetch .ensures (a .board) in
     let mem = now (a .memory) in
     let cache = now (a .cache) in
     let in-memory = found-inside (a .board) mem cache (pc .result) (fetch .0) (fetch .1) (c .before .before .before .before .before .before .before .before .before .before .before .if1 .left) in

@@ -36,7 +36,8 @@ returns c =
     let a = c .before .before .before .before .before .before .before .args in
     let l = c .before .before .before .before .loop in
     λ board.
-    sym (from-stop (entryRight board (now (a .memory))) (now (a .cache)) (l .k) (c .before .before .before .loop-test .taken) (sym (c .before .entry-right .ensures board) ∙ not-true _ (c .if1 .taken)))
+    sym (from-stop (entryRight board (now (a .memory))) (now (a .cache)) (l .k) (c .before .before .before .loop-test .taken)
+    (sym (c .before .entry-right .ensures board) ∙ not-true _ (c .if1 .taken)))
     ∙ l .inv board
 
 add-k : tie.Need-add-k Inv-loop μ-loop
@@ -50,7 +51,8 @@ loop-again c =
     let a = c .before .before .before .before .before .before .before .args in
     let l = c .before .before .before .before .loop in
     λ board.
-    sym (from-on (entryRight board (now (a .memory))) (now (a .cache)) (l .k) (c .before .before .before .loop-test .taken) (sym (c .before .entry-right .ensures board) ∙ not-false _ (c .if1 .left)))
+    sym (from-on (entryRight board (now (a .memory))) (now (a .cache)) (l .k) (c .before .before .before .loop-test .taken)
+    (sym (c .before .entry-right .ensures board) ∙ not-false _ (c .if1 .left)))
     ∙ l .inv board
 
 returns-2 : tie.Need-returns-2 Inv-loop μ-loop

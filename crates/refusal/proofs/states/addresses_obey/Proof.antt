@@ -64,7 +64,8 @@ status-obeys-requires c κs = search needs
 returns-5 : tie.Need-returns-5
 returns-5 c =
     λ board core.
-    let r = rules board core (ownWord (now (c .before .before .before .before .before .before .before .before .before .before .before .before .before .before .before .before .before .before .args .own))) in
+    let a = c .before .before .before .before .before .before .before .before .before .before .before .before .before .before .before .before .before .before .args in
+    let r = rules board core (ownWord (now (a .own))) in
     c .status-obeys .ensures board core
     ∙ pass (sym (c .before .before .unset-is-zero2 .ensures) ∙ c .before .if6 .taken) (drop 10 r)
     ∙ pass (sym (c .before .before .before .before .before .before .unset-is-zero .ensures) ∙ c .before .before .before .before .before .if5 .taken) (drop 9 r)

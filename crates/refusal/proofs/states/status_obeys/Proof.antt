@@ -31,7 +31,8 @@ returns-2 : tie.Need-returns-2
 returns-2 c =
     λ board core.
     let esr = ownWord (now (c .before .before .before .before .before .before .args .own)) esrAt in
-    last (ap (λ (x : ℕ). eqb x esr) (c .keep-allowed2 .ensures)) ∙ pass (eq-eqb _ _ (sym (c .before .before .before .keep-allowed .ensures) ∙ c .before .before .if1 .left)) (eqb (allowed esr) esr ∷ [])
+    last (ap (λ (x : ℕ). eqb x esr) (c .keep-allowed2 .ensures))
+    ∙ pass (eq-eqb _ _ (sym (c .before .before .before .keep-allowed .ensures) ∙ c .before .before .if1 .left)) (eqb (allowed esr) esr ∷ [])
 
 pub status-obeys-spec : {M : Type 1} → statement M
 status-obeys-spec =
