@@ -10,7 +10,7 @@ use lib.Pow.{pow-pos, pow-add, shl-shr, shr-le, shr-lt}
 use lib.Signed.{shrZ}
 use Rattle.bits.specs.Word.{word}
 use Rattle.bits.proofs.Extend.{signed-low, signed-high, by-half}
-use Rattle.arith.specs.Shift.{shiftLeft, shiftRight, shiftRightSigned, rotateRight}
+use Rattle.arith.specs.Shift.{shiftRightSigned, rotateRight}
 
 -- the powers of k and of what is left of 32 make 2 ^ 32
 pow-both : (k : ℕ) → k < 32 → 2 ^ 32 ≡ 2 ^ k * 2 ^ (32 - k)
@@ -131,13 +131,3 @@ rotated x (suc k) g h =
 pub ror-or : (x n : ℕ) → x < 2 ^ 32 → bitOr (x * 2 ^ ((32 - n % 32) % 32) % 2 ^ 32) (x / 2 ^ (n % 32)) ≡ rotateRight x n
 unfolding rotateRight
 ror-or x n g = rotated x (n % 32) g (omega arith)
-
--- ---- each is a word
-
-module _ (x n : ℕ) where
-  pub shift-left-lt : shiftLeft x n < 2 ^ 32
-  shift-left-lt = mod-lt (x * 2 ^ (n % 32)) (omega arith)
-
-  module _ (g : x < 2 ^ 32) where
-    pub shift-right-lt : shiftRight x n < 2 ^ 32
-    shift-right-lt = let l : x / 2 ^ (n % 32) ≤ x = shr-le x (n % 32) in omega arith

@@ -17,7 +17,7 @@ use Rattle.text.specs.Inner.{lineEnd, afterLines}
 use Rattle.text.specs.declared.Parsed.{Parsed}
 use Rattle.text.specs.declared.Parsed.the-variants.{Number, Nothing}
 use Rattle.text.proofs.Laws.{textAt}
-use Rattle.card.specs.Card.{Field, value, fault, limited, cores, memory, steps, schedule, word, every, digitsBelow, Step, step, stop, first, onward, line, wordLines, noneLeft, content, cardSays, Left, Verdict, good, refused, Job, formFault, valueFault, maxCard, maxWord, maxCores, minMemory, maxMemory, maxSteps, maxDigits}
+use Rattle.card.specs.Card.{Field, value, fault, limited, schedule, word, every, digitsBelow, Step, step, stop, first, onward, line, wordLines, noneLeft, content, cardSays, Left, Verdict, good, refused, Job, formFault, valueFault, maxCard, maxWord, maxCores, minMemory, maxMemory, maxSteps, maxDigits}
 use Rattle.card.specs.Answer.{headerLines, beforeSchedule, placed, answered, more, wordsFrom, job, jobAt, Sound, Bounds}
 use Rattle.card.specs.Inner.{parsedBy, left}
 use Rattle.card.specs.declared.Job as code

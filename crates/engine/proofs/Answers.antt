@@ -1,5 +1,5 @@
 -- What is not refused can be run, and what a run leaves is not refused; the answer. Assumes nothing.
-use mathlib.Core.Bool.{Bool, false, _||_}
+use mathlib.Core.Bool.{false}
 use mathlib.Core.List.{List, []}
 use mathlib.Core.Path.{_≡_, refl, sym, ap, ap₂, subst, _∙_}
 use Prim.Native.Nat.{ℕ, _+_, _/_}
@@ -14,7 +14,7 @@ use Rattle.semantics.specs.Commit.{coreCount}
 use Rattle.lawful.specs.Accepted.{accepted, AllAccepted}
 use Rattle.lawful.proofs.Accepted.{accepted-means, means-accepted}
 use Rattle.lawful.proofs.Cases.{by-equality}
-use Rattle.refusal.specs.Lent.{Lent, lent, Left, left, boardOf, formAt}
+use Rattle.refusal.specs.Lent.{Lent, Left, left, boardOf, formAt}
 use Rattle.refusal.specs.Refusal.{maxSchedule, statesObey, scheduleFits, namesCores, cacheFits, entryRight, entriesRight, everyFrom, plainRefusal, fastRefusal, refusalNumber}
 use Rattle.refusal.specs.declared.cause.Refusal.{Refusal}
 use Rattle.refusal.proofs.Tests.{below-at, of-below, from-at, of-from}

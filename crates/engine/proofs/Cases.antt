@@ -44,9 +44,6 @@ turn-once board mem s c core =
     if-both ReusedOnce (isRunning s core)
     (if-both ReusedOnce (isInside mem s core) (filled-le (getD c (fetched s core) 0)) tt) tt
 
-pub not-grown : (n : Counts) → Grown n n
-not-grown n = record { executed-le = omega arith; raised-le = omega arith; reused-le = omega arith }
-
 pub grown : {n n′ : Counts} (i : ℕ) → AtMost i n → Grown n n′ → AtMost (i + 1) n′
 grown i a g = record { executed-le = omega arith; raised-le = omega arith; reused-le = omega arith }
 

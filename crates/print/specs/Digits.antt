@@ -2,7 +2,7 @@
 -- needless zero". A text is the list of its characters' codes.
 use mathlib.Core.Bool.{Bool, true, false}
 use mathlib.Core.List.{List, [], _∷_, _++_}
-use Prim.Native.Nat.{ℕ, zero, suc, _+_, _/_, _%_, _^_}
+use Prim.Native.Nat.{ℕ, zero, suc, _/_, _%_, _^_}
 use lib.Dec.{ltb}
 use Rattle.text.specs.Digits.{glyph}
 

@@ -1,7 +1,7 @@
 -- Tests over numbers and lists, as a loop makes them, and the first of a list of rules that is broken. Assumes nothing.
 use mathlib.Core.Bool.{Bool, true, false, _&&_}
 use mathlib.Core.List.{List, [], _∷_, _++_}
-use mathlib.Core.Path.{_≡_, refl, sym, ap, _∙_}
+use mathlib.Core.Path.{_≡_, refl, sym, _∙_}
 use Prim.Native.Nat.{ℕ, zero, suc, _+_, _*_, _<_, _≤_}
 use native.Mathlib.Numerals.{add-one}
 use native.Mathlib.Omega.{arith}
@@ -10,7 +10,7 @@ use borrow.Author.Tests.{ltb-true, ltb-false}
 use lib.ListN.{length, getD, take, drop, drop-of-length-le}
 use lib.Seq.{drop-cons}
 use Rattle.bits.specs.Choice.{if_then_else_}
-use Rattle.bits.proofs.Tests.{and-left, and-right, and-both, T-of}
+use Rattle.bits.proofs.Tests.{and-left, and-right, and-both}
 use Rattle.effect.specs.State.{stateWords, pcAt, delayAt, targetAt, srAt, epcrAt, esrAt, linkAt, linkAddressAt, modeAt}
 use Rattle.effect.specs.declared.types.Board.{Board}
 use Rattle.semantics.specs.Commit.{wordAt}

@@ -1,12 +1,13 @@
 use borrow.Author.Tests.{le-leb, lt-leb}
+use Rattle.card.specs.Card.{maxCard}
 use Rattle.card.proofs.start.Statement.{statement}
 use Rattle.card.proofs.start.Tie as tie
 
 returns : tie.Need-returns
-returns c = simp (lt-leb _ _ (c .if1 .taken))
+returns c = simp (lt-leb _ maxCard (c .if1 .taken))
 
 returns-2 : tie.Need-returns-2
-returns-2 c = simp (le-leb _ _ (c .if1 .left))
+returns-2 c = simp (le-leb _ maxCard (c .if1 .left))
 
 pub start-spec : {M : Type 1} → statement M
 start-spec = tie.close (tie.spec returns returns-2)

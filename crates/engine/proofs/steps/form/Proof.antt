@@ -7,7 +7,7 @@ use Rattle.engine.proofs.steps.form.Statement.{statement}
 use Rattle.engine.proofs.steps.form.Tie as tie
 
 returns : tie.Need-returns
-returns c = λ board. rw (ne-eqb _ _ (c .if1 .taken))
+returns c = λ board. rw (ne-eqb _ 0 (c .if1 .taken))
 
 mul-load-word : tie.Need-mul-load-word
 mul-load-word c = search needs
@@ -20,7 +20,7 @@ decode-requires c κs = search needs
 
 returns-2 : tie.Need-returns-2
 unfolding formAt
-returns-2 c = λ board. rw (eq-eqb _ _ (c .before .before .if1 .left)) (c .decode .ensures ∙ ap decode (c .before .load-word .ensures .0))
+returns-2 c = λ board. rw (eq-eqb _ 0 (c .before .before .if1 .left)) (c .decode .ensures ∙ ap decode (c .before .load-word .ensures .0))
 
 pub form-spec : {M : Type 1} → statement M
 form-spec = tie.close (tie.spec returns mul-load-word load-word-requires decode-requires returns-2)

@@ -5,7 +5,7 @@ use Rattle.refusal.proofs.cache.entry_right.Statement.{statement}
 use Rattle.refusal.proofs.cache.entry_right.Tie as tie
 
 returns : tie.Need-returns
-returns c = λ board. simp (eq-eqb _ _ (c .if1 .taken))
+returns c = λ board. simp (eq-eqb _ 0 (c .if1 .taken))
 
 mul-load-word : tie.Need-mul-load-word
 mul-load-word c = search needs
@@ -18,7 +18,7 @@ decode-requires c κs = search needs
 
 returns-2 : tie.Need-returns-2
 unfolding formAt
-returns-2 c = λ board. simp (ne-eqb _ _ (c .before .before .if1 .left), c .decode .ensures, c .before .load-word .ensures .0)
+returns-2 c = λ board. simp (ne-eqb _ 0 (c .before .before .if1 .left), c .decode .ensures, c .before .load-word .ensures .0)
 
 pub entry-right-spec : {M : Type 1} → statement M
 entry-right-spec = tie.close (tie.spec returns mul-load-word load-word-requires decode-requires returns-2)
