@@ -1,6 +1,5 @@
 -- Helper of the code. The forms in which it hands an effect on to its commit; document 01's effects are Effect.antt.
-use Rattle.arith.specs.declared.Flagged.{Flagged}
-use Rattle.effect.specs.Effect.{advances, flags, halting, faults, overflowing, jumping, returning, linking, saving, unlinking, noStore}
+use Rattle.effect.specs.Effect.{advances, halting, faults, overflowing, jumping, returning, linking, saving, unlinking, noStore}
 use Rattle.effect.specs.declared.types.Inputs.{Inputs}
 use Rattle.effect.specs.declared.types.Effect.{Effect}
 use Rattle.effect.specs.declared.types.Written.{Written}
@@ -10,10 +9,6 @@ use Rattle.effect.specs.declared.types.Action.the-variants.{Advance, Jum
 -- the effect of an instruction that writes w and goes on
 abbrev pub goesOn : Inputs → Written → Effect
 goesOn x w = advances x (w .place) (w .value) (w .sr)
-
--- what a sum or difference writes
-abbrev pub summed : Inputs → Flagged → Written
-summed x f = record { place = x .d; value = f .value; sr = flags x f }
 
 -- the effect of an action of an instruction that reads x
 unfoldable pub effectBy : Inputs → Action → Effect

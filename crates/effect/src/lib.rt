@@ -1,10 +1,4 @@
-// One instruction: its action by value, and the effect that the action has.
-pub mod accesses;
-pub mod completed;
+// What an instruction reads, its action by value, and the effect that the action has.
 pub mod effects;
-pub mod jumps;
-pub mod raised;
-pub mod special;
 pub mod state;
-pub mod sums;
 pub mod types;

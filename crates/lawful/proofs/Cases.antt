@@ -8,7 +8,8 @@ use borrow.Author.Tests.{eqb-true, eqb-false}
 use Rattle.bits.specs.Choice.{if_then_else_}
 use Rattle.isa.specs.declared.vectors.Cause.{Cause}
 use Rattle.memory.specs.Memory.{access}
-use Rattle.effect.specs.Effect.{effectiveAddress, faults, granted, reaches}
+use Rattle.action.specs.Operations.{effectiveAddress, granted, reaches}
+use Rattle.effect.specs.Effect.{faults}
 use Rattle.effect.specs.declared.types.Inputs.{Inputs}
 use Rattle.effect.specs.declared.types.Effect.{Effect}
 

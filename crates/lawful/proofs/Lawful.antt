@@ -22,7 +22,8 @@ use Rattle.arith.proofs.Status.{allowed-flag, allowed-carry-overflow, allowed-e
 use Rattle.arith.proofs.Sums.{Ranged, bit-lt, address-sum-multiple}
 use Rattle.memory.proofs.Laws.{granted-aligned}
 use Rattle.effect.specs.State.{epcrAt, eearAt, esrAt}
-use Rattle.effect.specs.Effect.{completed, inSlot, onward, advances, nop, setsFlag, restart, exceptionPC, raises, faults, syscall, flags, sums, sumsOrRaises, jumping, jump, branch, registerJump, returns, load, loadLinked, linked, store, storeConditional, touch, setsSpecialRegister}
+use Rattle.effect.specs.Effect.{completed, inSlot, onward, advances, restart, exceptionPC, raises, faults, jumping}
+use Rattle.action.specs.Operations.{nop, setsFlag, syscall, flags, sums, sumsOrRaises, jump, branch, registerJump, returns, load, loadLinked, linked, store, storeConditional, touch, setsSpecialRegister}
 use Rattle.effect.specs.declared.types.Inputs.{Inputs}
 use Rattle.effect.specs.declared.types.Board.{Board}
 use Rattle.effect.specs.declared.types.Flow.{Flow}

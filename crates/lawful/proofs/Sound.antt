@@ -15,7 +15,8 @@ use Rattle.arith.specs.Bit.{isSet}
 use Rattle.arith.specs.Status.{OVE}
 use Rattle.arith.specs.declared.Flagged.{Flagged}
 use Rattle.effect.specs.State.{stateWords, epcrAt, eearAt, esrAt}
-use Rattle.effect.specs.Effect.{inSlot, advances, nop, setsFlag, raises, faults, syscall, sums, sumsOrRaises, jump, branch, registerJump, returns, load, loadLinked, storing, store, linked, storeConditional, touch, setsSpecialRegister, effectiveAddress}
+use Rattle.effect.specs.Effect.{inSlot, advances, raises, faults}
+use Rattle.action.specs.Operations.{nop, setsFlag, syscall, sums, sumsOrRaises, jump, branch, registerJump, returns, load, loadLinked, storing, store, linked, storeConditional, touch, setsSpecialRegister, effectiveAddress}
 use Rattle.effect.specs.declared.types.Inputs.{Inputs}
 use Rattle.effect.specs.declared.types.Board.{Board}
 use Rattle.semantics.specs.Meaning.{meaning}

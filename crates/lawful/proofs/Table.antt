@@ -13,7 +13,7 @@ use Rattle.arith.specs.Status.{CY}
 use Rattle.arith.specs.declared.Flagged.{Flagged}
 use Rattle.arith.proofs.Sums.{Ranged, sum-ranged, difference-ranged}
 use Rattle.memory.specs.Memory.{Width, byte-wide, half-wide, word-wide}
-use Rattle.effect.specs.Effect.{writes, nothing, setsFlag, nop, illegal, trap, syscall, sums, sumsOrRaises, jump, relative, branch, registerJump, returns, load, loadLinked, store, storeConditional, touch, setsSpecialRegister}
+use Rattle.action.specs.Operations.{writes, nothing, setsFlag, nop, illegal, trap, syscall, sums, sumsOrRaises, jump, relative, branch, registerJump, returns, load, loadLinked, store, storeConditional, touch, setsSpecialRegister}
 use Rattle.effect.specs.declared.types.Inputs.{Inputs}
 use Rattle.effect.specs.declared.types.Board.{Board}
 use Rattle.effect.specs.declared.types.Effect.{Effect}

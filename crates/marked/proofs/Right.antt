@@ -9,7 +9,8 @@ use Rattle.arith.specs.Sums.{addressDifference, sum, difference, fits as fits-s
 use Rattle.arith.specs.Compare.{holds}
 use Rattle.arith.specs.Place.{least}
 use Rattle.memory.specs.Memory.{access, loaded, stored}
-use Rattle.effect.specs.Effect.{onward, advances, restart, raises, jump, branch, load}
+use Rattle.effect.specs.Effect.{onward, advances, restart, raises}
+use Rattle.action.specs.Operations.{jump, branch, load}
 use Rattle.semantics.specs.Meaning.{branches, loads, meaning}
 use Rattle.semantics.specs.Commit.{inputs, putValue, putFlow, putStatus, putException, ownState, clearLink, clearLinks, statesAfter, memoryAfter}
 use Rattle.marked.specs.Marked.{right, every, marked}

@@ -9,7 +9,7 @@ use lib.ListN.{length}
 use borrow.Author.Tests.{lt-ltb, le-ltb}
 use Rattle.bits.proofs.Tests.{NoneOf, and-left, and-right}
 use Rattle.isa.specs.Groups.{firstBranch, firstNopMovhi, firstControl, firstLoad, firstImmediate, firstCompareImmediate, firstStore, firstArithmetic, firstLogic, firstCompare, firstCache, IsNopMovhi, IsControl, IsLoad, IsImmediate, IsCompareImmediate, IsStore, IsArithmetic, IsLogic, IsCompare}
-use Rattle.effect.specs.Effect.{illegal}
+use Rattle.action.specs.Operations.{illegal}
 use Rattle.effect.specs.declared.types.Inputs.{Inputs}
 use Rattle.effect.specs.declared.types.Board.{Board}
 use Rattle.effect.specs.declared.types.Effect.{Effect}

@@ -15,7 +15,7 @@ use Rattle.arith.specs.Sums.{sum, difference}
 use Rattle.arith.specs.Compare.{holds}
 use Rattle.arith.specs.Shift.{shiftLeft, shiftRight, shiftRightSigned, rotateRight, highHalf}
 use Rattle.arith.specs.Place.{least, greatest}
-use Rattle.effect.specs.Effect.{writes, nothing, setsFlag, nop, illegal, trap, syscall, sums, sumsOrRaises, jump, relative, afterSlot, branch, registerJump, returns, load, loadLinked, store, storeConditional, touch, specialRegister, setsSpecialRegister}
+use Rattle.action.specs.Operations.{writes, nothing, setsFlag, nop, illegal, trap, syscall, sums, sumsOrRaises, jump, relative, afterSlot, branch, registerJump, returns, load, loadLinked, store, storeConditional, touch, specialRegister, setsSpecialRegister}
 use Rattle.effect.specs.declared.types.Inputs.{Inputs}
 use Rattle.effect.specs.declared.types.Board.{Board}
 use Rattle.effect.specs.declared.types.Effect.{Effect}

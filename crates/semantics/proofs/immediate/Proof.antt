@@ -1,4 +1,4 @@
-use Rattle.effect.specs.Effect.{sums}
+use Rattle.action.specs.Operations.{sums}
 use Rattle.isa.specs.Groups.{firstImmediate}
 use Rattle.semantics.specs.Meaning.{immediates}
 use borrow.Author.Needs.{needs}

@@ -1,0 +1,35 @@
+// The special-purpose registers.
+ghost use mathlib.Core.Path.{_≡_};
+ghost use Rattle.action.specs.Operations.{specialRegister, setsSpecialRegister};
+ghost use Rattle.effect.specs.Inner.{goesOn};
+use crate::completed;
+use effect::state;
+use effect::types::Board;
+use effect::types::Inputs;
+use effect::types::Written;
+
+pub fn read(board: Board, x: Inputs, n: u32) -> u32
+    ensures { λ r. ⌜ r ≡ specialRegister board x n ⌝ }
+{
+    match n {
+        17 => x.sr,
+        32 => x.epcr,
+        48 => x.eear,
+        64 => x.esr,
+        128 => x.core,
+        129 => board.cores,
+        _ => 0,
+    }
+}
+
+pub fn write(x: Inputs, n: u32, v: u32) -> Written
+    ensures { λ r. ⌜ goesOn x r ≡ setsSpecialRegister x n v ⌝ }
+{
+    match n {
+        17 => completed::written(0, 0, arith::keep_allowed(v)),
+        32 => completed::written(state::EPCR as u32, arith::align(v), x.sr),
+        48 => completed::written(state::EEAR as u32, v, x.sr),
+        64 => completed::written(state::ESR as u32, arith::keep_allowed(v), x.sr),
+        _ => completed::nothing(x),
+    }
+}
