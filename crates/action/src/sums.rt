@@ -9,10 +9,10 @@ ghost use Rattle.action.specs.Operations.{flags as flagsOf, sumsOrRaises
 ghost use Rattle.effect.specs.Inner.{effectBy};
 ghost use Rattle.action.specs.Inner.{summed};
 use crate::completed;
+use arith::Flagged;
 use effect::types::Action;
 use effect::types::Inputs;
 use effect::types::Written;
-use arith::Flagged;
 
 // SR with the flags of f.
 fn flags(x: Inputs, f: Flagged) -> u32

@@ -18,7 +18,8 @@ use Rattle.memory.specs.Memory.{memoryWord}
 use Rattle.effect.specs.Effect.{raises}
 use Rattle.effect.specs.declared.types.Board.{Board}
 use Rattle.effect.specs.declared.types.Effect.{Effect}
-use Rattle.semantics.specs.Commit.{effectOf, fetchFault, writesMemory, touched, memoryAfter}
+use Rattle.semantics.specs.Meaning.{effectOf}
+use Rattle.commit.specs.Commit.{fetchFault, writesMemory, touched, memoryAfter}
 use Rattle.lawful.specs.Inner.{Sound}
 use Rattle.lawful.proofs.Cases.{by-equality}
 use Rattle.lawful.proofs.Instruction.{effect-sound, no-store-kept, other-words-kept}

@@ -10,7 +10,7 @@ use borrow.Author.Tests.{eq-eqb, ne-eqb}
 use Rattle.bits.proofs.Tests.{T-of}
 use Rattle.effect.specs.State.{stateWords}
 use Rattle.effect.specs.declared.types.Board.{Board}
-use Rattle.semantics.specs.Commit.{coreCount}
+use Rattle.commit.specs.Commit.{coreCount}
 use Rattle.lawful.specs.Accepted.{accepted, AllAccepted}
 use Rattle.lawful.proofs.Accepted.{accepted-means, means-accepted}
 use Rattle.lawful.proofs.Cases.{by-equality}

@@ -14,10 +14,12 @@ use Rattle.effect.specs.State.{pcAt, modeAt, running}
 use Rattle.effect.specs.declared.types.Board.{Board}
 use Rattle.effect.specs.Effect.{noStore}
 use Rattle.effect.specs.declared.types.Outcome.{Outcome}
-use Rattle.semantics.specs.Commit.{wordAt, effectOf, fetchFault}
+use Rattle.commit.specs.Commit.{wordAt, fetchFault}
+use Rattle.semantics.specs.Meaning.{effectOf}
 use Rattle.lawful.proofs.Cases.{if-both}
-use Rattle.exec.specs.Inner.{tells, Executed}
-use Rattle.exec.specs.declared.Done.{Done}
+use Rattle.commit.specs.Inner.{tells}
+use Rattle.exec.specs.Inner.{Executed}
+use Rattle.commit.specs.declared.Done.{Done}
 use Rattle.refusal.specs.Lent.{formAt}
 use Rattle.engine.specs.Plain.{isRunning, isInside, fetched, plainAfter}
 use Rattle.engine.specs.Fast.{filled, cachedForm, emptied, fastFetch, fastFault, fastStep, turnOf}

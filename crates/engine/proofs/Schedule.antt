@@ -15,7 +15,7 @@ use Rattle.memory.specs.Memory.{memoryWord}
 use Rattle.effect.specs.State.{pcAt}
 use Rattle.effect.specs.declared.types.Board.{Board}
 use Rattle.effect.specs.declared.types.Effect.{Effect}
-use Rattle.semantics.specs.Commit.{wordAt, coreCount, inputs, noFields, writesMemory}
+use Rattle.commit.specs.Commit.{wordAt, coreCount, inputs, noFields, writesMemory}
 use Rattle.lawful.specs.Inner.{Lawful}
 use Rattle.lawful.specs.Accepted.{AllAccepted}
 use Rattle.lawful.proofs.Cases.{if-both, by-equality}

@@ -7,7 +7,8 @@ use lib.ListN.{getD, set}
 use Rattle.bits.specs.Choice.{if_then_else_}
 use Rattle.effect.specs.declared.types.Board.{Board}
 use Rattle.effect.specs.declared.types.Effect.{Effect}
-use Rattle.semantics.specs.Commit.{effectOf, fetchFault, writesMemory, touched, raisedBy}
+use Rattle.semantics.specs.Meaning.{effectOf}
+use Rattle.commit.specs.Commit.{fetchFault, writesMemory, touched, raisedBy}
 use Rattle.refusal.specs.Lent.{formAt}
 use Rattle.engine.specs.Plain.{Plain, isRunning, isInside, fetched, plainAfter}
 use Rattle.engine.specs.declared.answer.Counts.{Counts}

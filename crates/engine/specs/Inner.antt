@@ -6,7 +6,7 @@ use lib.Dec.{leb}
 use lib.ListN.{length, getD, set}
 use Rattle.bits.specs.Choice.{if_then_else_}
 use Rattle.effect.specs.declared.types.Board.{Board}
-use Rattle.semantics.specs.Commit.{coreCount}
+use Rattle.commit.specs.Commit.{coreCount}
 use Rattle.lawful.specs.Accepted.{AllAccepted}
 use Rattle.refusal.specs.Lent.{Lent, left, boardOf, formAt}
 use Rattle.refusal.specs.Refusal.{maxSchedule}

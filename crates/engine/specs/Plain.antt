@@ -8,7 +8,8 @@ use Rattle.bits.specs.Choice.{if_then_else_}
 use Rattle.effect.specs.State.{pcAt, modeAt, running}
 use Rattle.effect.specs.declared.types.Board.{Board}
 use Rattle.effect.specs.declared.types.Effect.{Effect}
-use Rattle.semantics.specs.Commit.{wordAt, effectOf, fetchFault, statesAfter, memoryAfter, raisedBy}
+use Rattle.commit.specs.Commit.{wordAt, fetchFault, statesAfter, memoryAfter, raisedBy}
+use Rattle.semantics.specs.Meaning.{effectOf}
 use Rattle.refusal.specs.Lent.{Lent, boardOf, formAt}
 
 -- what a run has come to

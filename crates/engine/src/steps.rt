@@ -6,7 +6,7 @@ ghost use lib.ListN.{length, getD, set};
 ghost use Rattle.bits.specs.Choice.{if_then_else_};
 ghost use Rattle.effect.specs.State.{stateWords, pcAt, modeAt, running};
 ghost use Rattle.effect.specs.declared.types.Board.{Board};
-ghost use Rattle.semantics.specs.Commit.{wordAt, raisedBy};
+ghost use Rattle.commit.specs.Commit.{wordAt, raisedBy};
 ghost use Rattle.refusal.specs.Lent.{lent, formAt};
 ghost use Rattle.refusal.specs.Refusal.{maxSchedule};
 ghost use Rattle.engine.specs.Fast.{countsAfter};

@@ -1,6 +1,7 @@
 -- An entry performed on a core's own state is the instruction of that core among all states. Assumes nothing.
+use mathlib.Core.Bool.{Bool, true, false}
 use mathlib.Core.List.{List}
-use mathlib.Core.Path.{_≡_, ap, ap₂, _∙_}
+use mathlib.Core.Path.{_≡_, sym, ap, ap₂, subst, _∙_}
 use Prim.Native.Nat.{ℕ, _+_, _*_, _/_, _^_, _<_, _≤_}
 use native.Mathlib.Omega.{arith}
 use borrow.Rule.Slice.PartMut.{putMid}
@@ -11,14 +12,15 @@ use Rattle.effect.specs.State.{stateWords}
 use Rattle.effect.specs.declared.types.Inputs.{Inputs}
 use Rattle.effect.specs.declared.types.Board.{Board}
 use Rattle.effect.specs.declared.types.Effect.{Effect}
-use Rattle.semantics.specs.Meaning.{meaning}
-use Rattle.semantics.specs.Commit.{ownState, effectOf}
+use Rattle.commit.specs.Commit.{ownState, clearLinks, coreCount, writesMemory, touched, statesAfter}
+use Rattle.commit.specs.Inner.{entryInputs, Performed}
+use Rattle.commit.specs.declared.Done.{Done}
+use Rattle.commit.proofs.Commits.{performed-as}
+use Rattle.commit.proofs.Own.{mid-inputs, mid-committed}
+use Rattle.semantics.specs.Meaning.{meaning, effectOf}
 use Rattle.lawful.proofs.Sound.{meaning-sound}
 use Rattle.lawful.proofs.Instruction.{fields-registers}
-use Rattle.exec.specs.Inner.{entryInputs, Performed}
-use Rattle.exec.specs.declared.Done.{Done}
-use Rattle.exec.proofs.Commits.{performed-as}
-use Rattle.exec.proofs.Own.{mid-inputs, mid-committed}
+use Rattle.exec.specs.Inner.{Executed}
 
 module _ (board : Board) (mem s : List ℕ) (core entry : ℕ) (h : core * stateWords + stateWords ≤ length s) (f : entry < 2 ^ 64) (n : ℕ) (q : n ≡ stateWords) where
   -- the part, and the effect of the entry on it
@@ -43,3 +45,36 @@ module _ (board : Board) (mem s : List ℕ) (core entry : ℕ) (h : core * state
     committed-here =
         let sound = meaning-sound board mem (entryInputs own core entry) (fields-registers entry .d) (entry / 2 ^ 56) in
         mid-committed s core h n q performs (sound .place-lt) (p .left) ∙ ap (ownState s core) performs-as
+
+-- the same effect under another name
+pub executed-as : {e e′ : Effect} → e ≡ e′ → {mem s mem′ s′ : List ℕ} {core : ℕ} {r : Done} → Executed mem s core e mem′ s′ r → Executed mem s core e′ mem′ s′ r
+executed-as p {mem} {s} {mem′} {s′} {core} {r} x = subst (λ (f : Effect). Executed mem s core f mem′ s′ r) p x
+
+-- ---- every core's state
+
+-- and every core's link: s₁ is the states with the core's own committed
+module _ {mem own mem′ own′ : List ℕ} (s : List ℕ) {s₁ : List ℕ} (core : ℕ) {e : Effect} {r : Done} (p : Performed mem own e mem′ own′ r) (q : s₁ ≡ ownState s core e) where
+  stored-as : {b : Bool} → r .stored ≡ b → writesMemory e ≡ b
+  stored-as h = sym (ap (λ (d : Done). d .stored) (p .done)) ∙ h
+
+  after-none : writesMemory e ≡ false → ownState s core e ≡ statesAfter s core e
+  unfolding statesAfter
+  after-none h = simp h
+
+  after-store : writesMemory e ≡ true → clearLinks (coreCount s) (ownState s core e) (touched e * 4) ≡ statesAfter s core e
+  unfolding statesAfter
+  after-store h = simp h
+
+  pub executed-kept : r .stored ≡ false → Executed mem s core e mem′ s₁ r
+  executed-kept h = record { memory = p .memory; states = q ∙ after-none (stored-as h); done = p .done }
+
+  pub executed-stored : r .stored ≡ true → length s₁ ≡ length s → {s′ : List ℕ} → s′ ≡ clearLinks (coreCount s₁) s₁ (r .address / 4 * 4) → Executed mem s core e mem′ s′ r
+  executed-stored h l k =
+      record {
+        memory = p .memory;
+        states =
+            k ∙ ap₂ (λ n (t : List ℕ). clearLinks (n / stateWords) t (r .address / 4 * 4)) l q
+            ∙ ap (λ (d : Done). clearLinks (coreCount s) (ownState s core e) (d .address / 4 * 4)) (p .done)
+            ∙ after-store (stored-as h);
+        done = p .done;
+      }

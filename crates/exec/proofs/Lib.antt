@@ -1,3 +1,2 @@
-pub mod Commits
-mod Executes
-pub mod Own
+pub mod Executes
+mod Performs

@@ -2,10 +2,10 @@
 // its instructions do not use.
 ghost use Prim.Native.Nat.{_≤_, _<_};
 ghost use Rattle.isa.specs.Groups.{firstImmediate, firstStore, firstCompare};
-ghost use Rattle.exec.specs.Inner.{OwnState, Performs};
-use crate::Done;
-use crate::commit;
-use crate::inputs_at;
+ghost use Rattle.commit.specs.Inner.{OwnState};
+ghost use Rattle.exec.specs.Inner.{Performs};
+use commit::Done;
+use commit::inputs::inputs_at;
 use effect::types::Board;
 use isa::groups;
 

@@ -16,7 +16,7 @@ use Rattle.effect.specs.declared.types.Board.{Board}
 use Rattle.effect.specs.declared.types.Outcome.{Outcome}
 use Rattle.effect.specs.declared.types.Outcome.the-variants.{Completed, Raised}
 use Rattle.effect.specs.declared.types.Effect.{Effect}
-use Rattle.semantics.specs.Commit.{wordAt, put, putValue, putFlow, putStatus, putException, ownState}
+use Rattle.commit.specs.Commit.{wordAt, put, putValue, putFlow, putStatus, putException, ownState}
 use Rattle.lawful.specs.Inner.{Status, Multiple, LawfulState, LawfulWord, to-register, to-epcr, to-eear, to-esr, LawfulOutcome, completes, raised, Lawful}
 use Rattle.lawful.specs.Accepted.{Accepted}
 use Rattle.lawful.proofs.Cases.{if-law, if-both}

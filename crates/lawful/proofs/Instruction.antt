@@ -15,7 +15,8 @@ use Rattle.memory.specs.Memory.{stored, memoryWord}
 use Rattle.memory.proofs.Laws.{length-stored, other-word-kept}
 use Rattle.effect.specs.declared.types.Board.{Board}
 use Rattle.effect.specs.declared.types.Effect.{Effect}
-use Rattle.semantics.specs.Commit.{inputs, writesMemory, touched, memoryAfter, effectOf}
+use Rattle.commit.specs.Commit.{inputs, writesMemory, touched, memoryAfter}
+use Rattle.semantics.specs.Meaning.{effectOf}
 use Rattle.lawful.specs.Inner.{Sound, SoundStore, none, some}
 use Rattle.lawful.specs.Inner.{LawfulInputs, Lawful}
 use Rattle.lawful.specs.Accepted.{Accepted}

@@ -11,7 +11,7 @@ use Rattle.effect.specs.Effect.{noLink}
 use Rattle.effect.specs.declared.types.Link.{Link}
 use Rattle.effect.specs.declared.types.Effect.{Effect}
 use Rattle.effect.specs.declared.types.Board.{Board}
-use Rattle.semantics.specs.Commit.{wordAt, coreCount, ownState, clearLinks, writesMemory, touched, statesAfter}
+use Rattle.commit.specs.Commit.{wordAt, coreCount, ownState, clearLinks, writesMemory, touched, statesAfter}
 use Rattle.lawful.specs.Inner.{LawfulWord, to-register, to-epcr, to-eear, to-esr, Lawful}
 use Rattle.lawful.specs.Accepted.{AllAccepted}
 use Rattle.lawful.proofs.Cases.{if-both, by-equality}

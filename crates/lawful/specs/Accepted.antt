@@ -4,7 +4,7 @@ use mathlib.Core.List.{List}
 use Prim.Native.Nat.{ℕ, _<_}
 use Rattle.effect.specs.State.{all, rules}
 use Rattle.effect.specs.declared.types.Board.{Board}
-use Rattle.semantics.specs.Commit.{wordAt, coreCount}
+use Rattle.commit.specs.Commit.{wordAt, coreCount}
 use Rattle.lawful.specs.Inner.{LawfulState}
 
 -- the test that a run makes of a core's state

@@ -17,7 +17,8 @@ use Rattle.arith.specs.Place.{least}
 use Rattle.arith.specs.Status.{DSX}
 use Rattle.memory.specs.Memory.{access}
 use Rattle.effect.specs.State.{stateWords, pcAt, srAt, epcrAt, eearAt, esrAt, modeAt, running}
-use Rattle.semantics.specs.Commit.{wordAt, put, statesAfter, memoryAfter, effectOf}
+use Rattle.commit.specs.Commit.{wordAt, put, statesAfter, memoryAfter}
+use Rattle.semantics.specs.Meaning.{effectOf}
 
 pub data Example : Type 0 where
   -- a word is that entry, and the entry encodes to a word that decodes to it

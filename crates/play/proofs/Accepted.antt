@@ -10,7 +10,7 @@ use Rattle.bits.proofs.Tests.{and-left, and-right, and-both, T-of}
 use Rattle.effect.specs.State.{stateWords, pcAt, delayAt, targetAt, srAt, epcrAt, esrAt, linkAt, linkAddressAt, modeAt}
 use Rattle.arith.specs.Status.{allowed, only}
 use Rattle.effect.specs.declared.types.Board.{Board}
-use Rattle.semantics.specs.Commit.{wordAt, coreCount}
+use Rattle.commit.specs.Commit.{wordAt, coreCount}
 use Rattle.lawful.specs.Inner.{Mode, is-running}
 use Rattle.lawful.specs.Accepted.{accepted}
 use Rattle.lawful.proofs.Accepted.{means-accepted}

@@ -8,7 +8,7 @@ use lib.Dec.{T, eqb, leb, leb→le}
 use lib.ListN.{length}
 use Rattle.bits.proofs.Tests.{and-left, and-right, T-of}
 use Rattle.effect.specs.State.{stateWords}
-use Rattle.semantics.specs.Commit.{coreCount}
+use Rattle.commit.specs.Commit.{coreCount}
 use Rattle.lawful.proofs.Cases.{by-equality}
 use Rattle.refusal.specs.Lent.{Lent, boardOf}
 use Rattle.refusal.specs.Refusal.{memoryFits, statesFit, statesObey, scheduleFits, namesCores, cacheFits, entriesRight, runRules, cacheRules, firstBroken, plainRefusal, fastRefusal, refusalNumber}

@@ -13,11 +13,11 @@ use Rattle.bits.specs.Choice.{if_then_else_}
 use Rattle.bits.proofs.Tests.{and-left, and-right, and-both}
 use Rattle.effect.specs.State.{stateWords, pcAt, delayAt, targetAt, srAt, epcrAt, esrAt, linkAt, linkAddressAt, modeAt}
 use Rattle.effect.specs.declared.types.Board.{Board}
-use Rattle.semantics.specs.Commit.{wordAt}
+use Rattle.commit.specs.Commit.{wordAt}
 use Rattle.effect.specs.State.{all, rules}
 use Rattle.lawful.proofs.Cases.{by-equality}
-use Rattle.exec.proofs.Own.{mid-word}
-use Rattle.exec.specs.Inner.{ownWord}
+use Rattle.commit.proofs.Own.{mid-word}
+use Rattle.commit.specs.Inner.{ownWord}
 use Rattle.refusal.specs.Refusal.{Rule, everyBelow, everyFrom, firstBroken}
 use Rattle.refusal.specs.Inner.{greatest}
 

@@ -5,7 +5,7 @@ use Prim.Native.Nat.{ℕ}
 use Rattle.isa.specs.InstructionSet.{decode}
 use Rattle.memory.specs.Memory.{memoryWord}
 use Rattle.effect.specs.declared.types.Board.{Board}
-use Rattle.semantics.specs.Commit.{coreCount}
+use Rattle.commit.specs.Commit.{coreCount}
 
 pub record Lent : Type 0 where
   pub memory : List ℕ

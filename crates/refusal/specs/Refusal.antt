@@ -7,7 +7,7 @@ use lib.ListN.{length}
 use Rattle.bits.specs.Choice.{if_then_else_}
 use Rattle.effect.specs.State.{stateWords}
 use Rattle.effect.specs.declared.types.Board.{Board}
-use Rattle.semantics.specs.Commit.{coreCount}
+use Rattle.commit.specs.Commit.{coreCount}
 use Rattle.lawful.specs.Accepted.{accepted}
 use Rattle.refusal.specs.Lent.{Lent, boardOf, formAt}
 use Rattle.refusal.specs.declared.cause.Refusal.{Refusal}

@@ -1,3 +1,2 @@
--- Meaning says what each kind does, Commit what an effect leaves in what is lent.
+-- What each kind does.
 pub mod Meaning
-pub mod Commit

@@ -8,6 +8,7 @@ use lib.Dec.{eqb, ltb}
 use lib.ListN.{length}
 use Rattle.bits.specs.Choice.{if_then_else_}
 use Rattle.bits.specs.Word.{bitAt, extend}
+use Rattle.isa.specs.Entry.{kindOfEntry, fieldsOf}
 use Rattle.isa.specs.Groups.{firstNopMovhi, firstControl, firstLoad, firstImmediate, firstCompareImmediate, firstStore, firstArithmetic, firstLogic, firstCompare, firstCache}
 use Rattle.arith.specs.Bit.{isSet}
 use Rattle.arith.specs.Status.{F, CY}
@@ -15,6 +16,7 @@ use Rattle.arith.specs.Sums.{sum, difference}
 use Rattle.arith.specs.Compare.{holds}
 use Rattle.arith.specs.Shift.{shiftLeft, shiftRight, shiftRightSigned, rotateRight, highHalf}
 use Rattle.arith.specs.Place.{least, greatest}
+use Rattle.commit.specs.Commit.{inputs}
 use Rattle.action.specs.Operations.{writes, nothing, setsFlag, nop, illegal, trap, syscall, sums, sumsOrRaises, jump, relative, afterSlot, branch, registerJump, returns, load, loadLinked, store, storeConditional, touch, specialRegister, setsSpecialRegister}
 use Rattle.effect.specs.declared.types.Inputs.{Inputs}
 use Rattle.effect.specs.declared.types.Board.{Board}
@@ -154,3 +156,7 @@ grouped k (g ∷ gs) e = if ltb k (g .0) then g .1 else grouped k gs e
 -- The instruction of kind k on memory mem. A number that is no kind is illegal, as kind 1 is.
 unfoldable pub meaning : Board → List ℕ → ℕ → Inputs → Effect
 meaning board mem k x = grouped k (groups board mem k x) (caches (length mem) k x)
+
+-- the effect of an entry as it stands, whatever word memory holds
+abbrev pub effectOf : Board → List ℕ → List ℕ → ℕ → ℕ → Effect
+effectOf board mem s core entry = meaning board mem (kindOfEntry entry) (inputs s core (fieldsOf entry))

@@ -3,8 +3,8 @@ use mathlib.Core.List.{List}
 use Prim.Native.Nat.{ℕ, _/_}
 use native.Mathlib.Omega.{arith}
 use denote.Ref.{now}
-use Rattle.semantics.specs.Commit.{effectOf}
-use Rattle.exec.proofs.Commits.{executed-as}
+use Rattle.semantics.specs.Meaning.{effectOf}
+use Rattle.exec.proofs.Executes.{executed-as}
 use Rattle.engine.specs.declared.steps.Fetched.{Fetched}
 use Rattle.engine.specs.declared.steps.Turn.the-variants.{FetchFault}
 use Rattle.engine.specs.Inner.{Stepped}

@@ -2,7 +2,7 @@ use mathlib.Core.Path.{_≡_, refl, sym, ap, subst, _∙_}
 use Prim.Native.Nat.{_-_, _<_, _≤_}
 use native.Mathlib.Omega.{arith}
 use lib.ListN.{length, drop}
-use Rattle.semantics.specs.Commit.{coreCount}
+use Rattle.commit.specs.Commit.{coreCount}
 use Rattle.lawful.specs.Accepted.{AllAccepted}
 use Rattle.refusal.specs.Lent.{lent, boardOf}
 use Rattle.engine.specs.Fast.{fastStep, fastFrom}

@@ -2,7 +2,7 @@ use mathlib.Core.Path.{_∙_}
 use native.Mathlib.Omega.{arith}
 use denote.Ref.{now}
 use Rattle.semantics.proofs.Groups.{is-immediate, is-compare-immediate, is-compare, is-cache}
-use Rattle.exec.proofs.Commits.{committable, performs, writable, writes}
+use Rattle.exec.proofs.Performs.{committable, performs, writable, writes}
 use borrow.Author.Needs.{needs}
 use Rattle.exec.proofs.perform.high.Statement.{statement}
 use Rattle.exec.proofs.perform.high.Tie as tie

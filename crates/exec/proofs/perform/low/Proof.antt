@@ -2,7 +2,7 @@ use mathlib.Core.Path.{_∙_}
 use native.Mathlib.Omega.{arith}
 use denote.Ref.{now}
 use Rattle.semantics.proofs.Groups.{is-branch, is-nop-movhi, is-control, is-load}
-use Rattle.exec.proofs.Commits.{committable, performs}
+use Rattle.exec.proofs.Performs.{committable, performs}
 use borrow.Author.Needs.{needs}
 use Rattle.exec.proofs.perform.low.Statement.{statement}
 use Rattle.exec.proofs.perform.low.Tie as tie

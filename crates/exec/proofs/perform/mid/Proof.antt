@@ -2,7 +2,7 @@ use mathlib.Core.Path.{_∙_}
 use native.Mathlib.Omega.{arith}
 use denote.Ref.{now}
 use Rattle.semantics.proofs.Groups.{is-store, is-arithmetic, is-logic}
-use Rattle.exec.proofs.Commits.{committable, performs, writable, writes}
+use Rattle.exec.proofs.Performs.{committable, performs, writable, writes}
 use borrow.Author.Needs.{needs}
 use Rattle.exec.proofs.perform.mid.Statement.{statement}
 use Rattle.exec.proofs.perform.mid.Tie as tie

@@ -6,7 +6,7 @@ use lib.Dec.{eqb}
 use borrow.Author.Tests.{eq-eqb, ne-eqb}
 use Rattle.arith.specs.Status.{allowed}
 use Rattle.effect.specs.State.{esrAt}
-use Rattle.exec.specs.Inner.{ownWord}
+use Rattle.commit.specs.Inner.{ownWord}
 use Rattle.refusal.proofs.Tests.{pass, last}
 use borrow.Author.Needs.{needs}
 use Rattle.refusal.proofs.states.status_obeys.Statement.{statement}

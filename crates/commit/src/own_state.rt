@@ -1,0 +1,79 @@
+// A core's own state after an instruction.
+ghost use mathlib.Core.Path.{_≡_};
+ghost use Prim.Native.Nat.{_≤_, _<_};
+ghost use lib.ListN.{length};
+ghost use Rattle.effect.specs.State.{stateWords};
+ghost use Rattle.commit.specs.Commit.{putValue, putFlow, putStatus, putException};
+ghost use Rattle.commit.specs.Inner.{Owned};
+use effect::state;
+use effect::types::Effect;
+use effect::types::Exception;
+use effect::types::Outcome;
+use isa::vectors;
+
+// The register, or special-purpose register, that an effect writes; r0 is dropped.
+fn put_value(own: &mut [u32], e: Effect)
+    requires { ⌜ stateWords ≤ length (now own) ⌝ }
+    requires { ⌜ e .place < stateWords ⌝ }
+    ensures { λ _. ⌜ now (own .exit) ≡ putValue (now (own .entry)) 0 e ⌝ }
+{
+    if e.place != 0 {
+        own[e.place as usize] = e.value;
+    }
+}
+
+fn put_flow(own: &mut [u32], e: Effect)
+    requires { ⌜ stateWords ≤ length (now own) ⌝ }
+    ensures { λ _. ⌜ now (own .exit) ≡ putFlow (now (own .entry)) 0 e ⌝ }
+{
+    own[state::PC] = e.flow.pc;
+    own[state::DELAY] = e.flow.delay;
+    own[state::TARGET] = e.flow.target;
+}
+
+fn put_status(own: &mut [u32], e: Effect)
+    requires { ⌜ stateWords ≤ length (now own) ⌝ }
+    ensures { λ _. ⌜ now (own .exit) ≡ putStatus (now (own .entry)) 0 e ⌝ }
+{
+    own[state::SR] = e.sr;
+    own[state::LINK] = e.link.held;
+    own[state::LINK_ADDRESS] = e.link.address;
+    own[state::MODE] = e.mode;
+}
+
+// An exception's vector, EPCR, EEAR and ESR.
+fn put_raised(own: &mut [u32], x: Exception)
+    requires { ⌜ stateWords ≤ length (now own) ⌝ }
+    ensures { λ _. ⌜ now (own .exit) ≡ putException (Outcome.Raised x) (now (own .entry)) 0 ⌝ }
+{
+    let cause = x.cause;
+    own[state::PC] = vectors::vector(cause);
+    own[state::EPCR] = x.epcr;
+    own[state::EEAR] = x.eear;
+    own[state::ESR] = x.esr;
+}
+
+// What is left of an exception, if the step ends in one.
+fn put_outcome(own: &mut [u32], outcome: Outcome)
+    requires { ⌜ stateWords ≤ length (now own) ⌝ }
+    ensures { λ _. ⌜ now (own .exit) ≡ putException outcome (now (own .entry)) 0 ⌝ }
+{
+    match outcome {
+        Outcome::Completed => {}
+        Outcome::Raised(x) => put_raised(own, x),
+    }
+}
+
+// The core's own state; answers how the step ends.
+pub fn commit_state(own: &mut [u32], e: Effect) -> Outcome
+    requires { ⌜ stateWords ≤ length (now own) ⌝ }
+    requires { ⌜ e .place < stateWords ⌝ }
+    ensures { λ r. ⌜ Owned (now (own .entry)) e (now (own .exit)) r ⌝ }
+{
+    put_value(own, e);
+    put_flow(own, e);
+    put_status(own, e);
+    let outcome = e.outcome;
+    put_outcome(own, outcome);
+    outcome
+}
