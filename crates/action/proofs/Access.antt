@@ -9,10 +9,10 @@ use Rattle.memory.specs.declared.Access.{Access}
 use Rattle.memory.specs.declared.Access.the-variants.{Fault}
 use Rattle.memory.proofs.Access.{the-type}
 use Rattle.memory.proofs.Laws.{granted-tag}
-use Rattle.action.specs.Operations.{effectiveAddress, granted, reaches}
 use Rattle.effect.specs.Effect.{faults}
 use Rattle.effect.specs.declared.types.Inputs.{Inputs}
 use Rattle.effect.specs.declared.types.Effect.{Effect}
+use Rattle.action.specs.Operations.{effectiveAddress, granted, reaches}
 
 -- t is the answer to the test at the address
 module _ (x : Inputs) (n len at : ℕ) (t : Access) (p : at ≡ effectiveAddress x) (q : causeOf t ≡ access n len at) where

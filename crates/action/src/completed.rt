@@ -1,7 +1,7 @@
 // Instructions that complete and go on to the next one: what they write, and their action.
 ghost use mathlib.Core.Path.{_≡_};
-ghost use Rattle.action.specs.Operations.{writes as writesOf, nothing as nothingOf, setsFlag, nop as nopOf};
 ghost use Rattle.effect.specs.Inner.{effectBy, goesOn};
+ghost use Rattle.action.specs.Operations.{writes as writesOf, nothing as nothingOf, setsFlag, nop as nopOf};
 use effect::types::Action;
 use effect::types::Inputs;
 use effect::types::Written;

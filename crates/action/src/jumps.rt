@@ -1,9 +1,9 @@
 // Jumps, branches and the return from an exception: illegal in a delay slot.
 ghost use mathlib.Core.Path.{_≡_};
 ghost use Rattle.effect.specs.Effect.{jumping};
-ghost use Rattle.action.specs.Operations.{jump as jumpOf, relative as relativeOf, afterSlot, branch as branchOf, registerJump, returns};
 ghost use Rattle.effect.specs.Inner.{effectBy};
 ghost use Rattle.effect.specs.declared.types.Inputs.{Inputs};
+ghost use Rattle.action.specs.Operations.{jump as jumpOf, relative as relativeOf, afterSlot, branch as branchOf, registerJump, returns};
 use crate::raised;
 use effect::effects;
 use effect::types::Action;

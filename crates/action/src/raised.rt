@@ -1,9 +1,9 @@
 // Instructions that raise an exception.
 ghost use mathlib.Core.Path.{_≡_};
 ghost use Rattle.effect.specs.Effect.{faults};
-ghost use Rattle.action.specs.Operations.{illegal as illegalOf, trap as trapOf, syscall as syscallOf};
 ghost use Rattle.effect.specs.Inner.{effectBy};
 ghost use Rattle.effect.specs.declared.types.Inputs.{Inputs};
+ghost use Rattle.action.specs.Operations.{illegal as illegalOf, trap as trapOf, syscall as syscallOf};
 use effect::effects;
 use effect::types::Action;
 use effect::types::Faulted;

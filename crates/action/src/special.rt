@@ -1,7 +1,7 @@
 // The special-purpose registers.
 ghost use mathlib.Core.Path.{_≡_};
-ghost use Rattle.action.specs.Operations.{specialRegister, setsSpecialRegister};
 ghost use Rattle.effect.specs.Inner.{goesOn};
+ghost use Rattle.action.specs.Operations.{specialRegister, setsSpecialRegister};
 use crate::completed;
 use effect::state;
 use effect::types::Board;

@@ -1,4 +1,5 @@
 -- Laws that every other crate's proofs may cite.
+pub mod Cases
 pub mod Extend
 pub mod Lists
 pub mod Tests

@@ -4,7 +4,6 @@ use mathlib.Core.Path.{_≡_, refl, sym, ap, subst, _∙_}
 use Prim.Native.Nat.{ℕ, zero, suc, _+_, _≤_, _<_}
 use native.Mathlib.Omega.{arith}
 use denote.Enum.Declared.{tagOf}
-use lib.ListN.{length}
 use Rattle.memory.specs.Memory.{Width, stored}
 use Rattle.effect.specs.State.{stateWords}
 use Rattle.effect.specs.Effect.{noStore}

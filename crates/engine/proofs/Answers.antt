@@ -8,26 +8,29 @@ use lib.Dec.{T, eqb, ltb, eqb→eq, leb→le, ltb→lt}
 use lib.ListN.{length, getD}
 use borrow.Author.Tests.{eq-eqb, ne-eqb}
 use Rattle.bits.proofs.Tests.{T-of}
+use Rattle.bits.proofs.Cases.{by-equality}
 use Rattle.effect.specs.State.{stateWords}
 use Rattle.effect.specs.declared.types.Board.{Board}
 use Rattle.commit.specs.Commit.{coreCount}
+use Rattle.decode_cache.specs.Cache.{formAt}
+use Rattle.decode_cache.specs.Inner.{Backed}
 use Rattle.lawful.specs.Accepted.{accepted, AllAccepted}
 use Rattle.lawful.proofs.Accepted.{accepted-means, means-accepted}
-use Rattle.lawful.proofs.Cases.{by-equality}
-use Rattle.refusal.specs.Lent.{Lent, Left, left, boardOf, formAt}
+use Rattle.refusal.specs.Lent.{Lent, Left, left, boardOf}
 use Rattle.refusal.specs.Refusal.{maxSchedule, statesObey, scheduleFits, namesCores, cacheFits, entryRight, entriesRight, everyFrom, plainRefusal, fastRefusal, refusalNumber}
 use Rattle.refusal.specs.declared.cause.Refusal.{Refusal}
 use Rattle.refusal.proofs.Tests.{below-at, of-below, from-at, of-from}
 use Rattle.refusal.proofs.Passes.{Passes, CachePasses, plain-passes, fast-then-plain, cache-passes, none-refused, cause-number, cores-fit}
-use Rattle.engine.specs.Plain.{Plain, plainRun, start}
-use Rattle.engine.specs.Fast.{Fast}
-use Rattle.engine.specs.History.{History, history, entriesFrom}
-use Rattle.engine.specs.Answer.{AtMost, noCounts, cacheLeft, again, PlainAnswer, FastAnswer}
-use Rattle.engine.specs.Inner.{fastOf, Runnable, Right, Backed, Finished}
-use Rattle.engine.specs.declared.answer.Counts.{Counts}
+use Rattle.steps.specs.Plain.{Plain, plainRun, start}
+use Rattle.steps.specs.Fast.{Fast}
+use Rattle.steps.specs.History.{History, history, entriesFrom}
+use Rattle.steps.specs.Counts.{AtMost, noCounts}
+use Rattle.steps.specs.Inner.{fastOf, Runnable, Right, Finished}
+use Rattle.steps.specs.declared.counts.Counts.{Counts}
+use Rattle.steps.proofs.Agree.{Agrees}
+use Rattle.steps.proofs.Schedule.{from-agrees, from-uncached, from-accepted, cache-is}
+use Rattle.engine.specs.Answer.{cacheLeft, again, PlainAnswer, FastAnswer}
 use Rattle.engine.specs.declared.answer.Answer.the-variants.{Ran, Refused}
-use Rattle.engine.proofs.Agree.{Agrees}
-use Rattle.engine.proofs.Schedule.{from-agrees, from-uncached, from-accepted, cache-is}
 
 -- ---- what is not refused
 

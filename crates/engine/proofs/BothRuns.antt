@@ -6,8 +6,8 @@ use borrow.Author.Tests.{eq-eqb}
 use Rattle.refusal.specs.Lent.{Lent, Left}
 use Rattle.refusal.specs.Refusal.{fastRefusal}
 use Rattle.refusal.proofs.Passes.{fast-then-plain}
-use Rattle.engine.specs.Plain.{Plain}
-use Rattle.engine.specs.Answer.{number, countsOf, plainOf, PlainAnswer, FastAnswer}
+use Rattle.steps.specs.Plain.{Plain, plainOf}
+use Rattle.engine.specs.Answer.{number, countsOf, PlainAnswer, FastAnswer}
 use Rattle.engine.specs.declared.answer.Answer.{Answer}
 
 -- the answer p of a plain run, which leaves x, and f of a fast run, which leaves y: "both end with the same memory, the same sheets, the same

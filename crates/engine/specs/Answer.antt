@@ -1,14 +1,15 @@
 -- A run's answer and what it leaves of all that is lent, for every input: document 01, "Turned back", and demand 3.
 use mathlib.Core.List.{List, []}
 use mathlib.Core.Path.{_≡_}
-use Prim.Native.Nat.{ℕ, _+_, _*_, _^_, _≤_}
+use Prim.Native.Nat.{ℕ, _+_, _*_, _^_}
 use lib.Dec.{eqb}
 use Rattle.bits.specs.Choice.{if_then_else_}
 use Rattle.refusal.specs.Lent.{Lent, Left, boardOf}
 use Rattle.refusal.specs.Refusal.{maxSchedule, plainRefusal, fastRefusal, refusalNumber}
-use Rattle.engine.specs.Plain.{Plain, plainRun, start}
-use Rattle.engine.specs.History.{history, entriesFrom}
-use Rattle.engine.specs.declared.answer.Counts.{Counts}
+use Rattle.steps.specs.Counts.{noCounts, AtMost}
+use Rattle.steps.specs.Plain.{plainRun, start, plainOf}
+use Rattle.steps.specs.History.{history, entriesFrom}
+use Rattle.steps.specs.declared.counts.Counts.{Counts}
 use Rattle.engine.specs.declared.answer.Answer.{Answer}
 use Rattle.engine.specs.declared.answer.Answer.the-variants.{Ran, Refused}
 
@@ -20,9 +21,6 @@ number (Ran n) = 0
 number (Refused cause) = refusalNumber cause
 
 -- the three counts; "counts are then 0"
-abbrev pub noCounts : Counts
-noCounts = record { executed = 0; raised = 0; reused = 0 }
-
 abbrev pub countsOf : Answer → Counts
 countsOf (Ran n) = n
 countsOf (Refused cause) = noCounts
@@ -31,17 +29,7 @@ countsOf (Refused cause) = noCounts
 abbrev pub packedAnswer : Answer → ℕ
 packedAnswer a = number a * 2 ^ 60 + countsOf a .reused * 2 ^ 40 + countsOf a .raised * 2 ^ 20 + countsOf a .executed
 
--- no count exceeds m. A schedule has at most 65,536 entries, so that each count has room in its 20 bits
-pub record AtMost (m : ℕ) (n : Counts) : Type 0 where
-  pub executed-le : n .executed ≤ m
-  pub raised-le : n .raised ≤ m
-  pub reused-le : n .reused ≤ m
-
 -- ---- what is left
-
--- memory and states that are left, with the counts of executed and raised
-abbrev pub plainOf : Left → Counts → Plain
-plainOf x n = record { memory = x .memory; states = x .states; executed = n .executed; raised = n .raised }
 
 -- a where nothing is refused; b where something is: "counts are then 0. .. Nothing lent is written."
 abbrev pub unlessRefused {ℓ} : {A : Type ℓ} → ℕ → A → A → A

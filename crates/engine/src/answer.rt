@@ -1,16 +1,11 @@
 // What a run answers.
 ghost use mathlib.Core.Path.{_≡_};
 ghost use Rattle.refusal.specs.Refusal.{maxSchedule};
-ghost use Rattle.engine.specs.Answer.{countsOf, packedAnswer, AtMost};
+ghost use Rattle.steps.specs.Counts.{AtMost};
+ghost use Rattle.engine.specs.Answer.{countsOf, packedAnswer};
 use refusal::cause;
 use refusal::cause::Refusal;
-
-// How many entries were executed, how many of them raised an exception, and how many found their word in the decode cache.
-pub struct Counts {
-    pub executed: u32,
-    pub raised: u32,
-    pub reused: u32,
-}
+use steps::counts::Counts;
 
 pub enum Answer {
     Ran(Counts),

@@ -10,7 +10,7 @@ pub fn fast_run(memory: &mut [u8], states: &mut [u32], schedule: &[u8], cache: &
 {
     let verdict = refusal::check_fast(memory, states, schedule, cache);
     match verdict {
-        Verdict::Accepted => Answer::Ran(crate::steps::run(memory, states, schedule, cache)),
+        Verdict::Accepted => Answer::Ran(steps::run(memory, states, schedule, cache)),
         Verdict::Refused(cause) => Answer::Refused(cause),
     }
 }

@@ -1,6 +1,4 @@
-// Both runs of the engine.
+// Both runs of the engine: what is lent is tested, then run.
 pub mod answer;
 pub mod fast;
-pub mod index;
 pub mod plain;
-pub mod steps;

@@ -12,7 +12,7 @@ pub fn plain_run(memory: &mut [u8], states: &mut [u32], schedule: &[u8]) -> Answ
     match verdict {
         Verdict::Accepted => {
             let mut none = [0u64; 0];
-            Answer::Ran(crate::steps::run(memory, states, schedule, &mut none))
+            Answer::Ran(steps::run(memory, states, schedule, &mut none))
         }
         Verdict::Refused(cause) => Answer::Refused(cause),
     }

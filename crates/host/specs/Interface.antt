@@ -5,8 +5,8 @@ use Prim.Native.Nat.{ℕ, _/_, _%_, _^_, _<_, _≤_}
 use Rattle.isa.specs.InstructionSet.{decode}
 use Rattle.isa.specs.Encoding.{encode, number}
 use Rattle.refusal.specs.Lent.{Lent, Left}
+use Rattle.steps.specs.declared.counts.Counts.{Counts}
 use Rattle.engine.specs.Answer.{number as refusalIn, countsOf, packedAnswer, PlainAnswer, FastAnswer}
-use Rattle.engine.specs.declared.answer.Counts.{Counts}
 use Rattle.engine.specs.declared.answer.Answer.{Answer}
 
 -- ---- words and entries

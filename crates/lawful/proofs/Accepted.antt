@@ -6,11 +6,10 @@ use Prim.Native.Nat.{ℕ}
 use lib.Dec.{T, eqb, eqb→eq, leb→le, le→leb}
 use borrow.Author.Tests.{eq-eqb, eqb-true}
 use Rattle.bits.proofs.Tests.{and-left, and-right, and-both, T-of, Each}
-use Rattle.effect.specs.State.{halted, running}
+use Rattle.effect.specs.State.{halted, running, all, rules}
 use Rattle.effect.specs.declared.types.Board.{Board}
 use Rattle.commit.specs.Commit.{wordAt}
 use Rattle.lawful.specs.Inner.{Mode, is-halted, is-running}
-use Rattle.effect.specs.State.{all, rules}
 use Rattle.lawful.specs.Accepted.{accepted, Accepted}
 
 each-of : (l : List Bool) → T (all l) → Each l

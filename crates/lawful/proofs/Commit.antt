@@ -10,8 +10,9 @@ use lib.Seq.{getD-set-same, getD-set-other}
 use borrow.Author.Tests.{ne-eqb, eqb-true, eqb-false}
 use Rattle.bits.specs.Choice.{if_then_else_}
 use Rattle.bits.proofs.Tests.{and-left, and-right}
-use Rattle.effect.specs.State.{stateWords, pcAt, delayAt, targetAt, srAt, epcrAt, eearAt, esrAt, linkAt, linkAddressAt, modeAt}
+use Rattle.bits.proofs.Cases.{if-law, if-both}
 use Rattle.isa.specs.Vectors.{vector}
+use Rattle.effect.specs.State.{stateWords, pcAt, delayAt, targetAt, srAt, epcrAt, eearAt, esrAt, linkAt, linkAddressAt, modeAt}
 use Rattle.effect.specs.declared.types.Board.{Board}
 use Rattle.effect.specs.declared.types.Outcome.{Outcome}
 use Rattle.effect.specs.declared.types.Outcome.the-variants.{Completed, Raised}
@@ -19,7 +20,6 @@ use Rattle.effect.specs.declared.types.Effect.{Effect}
 use Rattle.commit.specs.Commit.{wordAt, put, putValue, putFlow, putStatus, putException, ownState}
 use Rattle.lawful.specs.Inner.{Status, Multiple, LawfulState, LawfulWord, to-register, to-epcr, to-eear, to-esr, LawfulOutcome, completes, raised, Lawful}
 use Rattle.lawful.specs.Accepted.{Accepted}
-use Rattle.lawful.proofs.Cases.{if-law, if-both}
 use Rattle.lawful.proofs.Lawful.{vector-multiple}
 
 -- ---- several words put into one core's state: pairs of a place and a word

@@ -17,8 +17,7 @@ use Rattle.effect.specs.declared.types.Board.{Board}
 use Rattle.effect.specs.declared.types.Effect.{Effect}
 use Rattle.commit.specs.Commit.{inputs, writesMemory, touched, memoryAfter}
 use Rattle.semantics.specs.Meaning.{effectOf}
-use Rattle.lawful.specs.Inner.{Sound, SoundStore, none, some}
-use Rattle.lawful.specs.Inner.{LawfulInputs, Lawful}
+use Rattle.lawful.specs.Inner.{Sound, SoundStore, none, some, LawfulInputs, Lawful}
 use Rattle.lawful.specs.Accepted.{Accepted}
 use Rattle.lawful.proofs.Sound.{meaning-sound}
 use Rattle.lawful.proofs.Lawful.{meaning-lawful}

@@ -9,6 +9,7 @@ use lib.IntN.{subℕ, _-ℤ_}
 use lib.ListN.{length}
 use borrow.Author.Tests.{ltb-false}
 use Rattle.bits.specs.Word.{bit, word}
+use Rattle.bits.proofs.Cases.{if-law, if-both}
 use Rattle.isa.specs.Vectors.{vector}
 use Rattle.isa.specs.declared.vectors.Cause.{Cause}
 use Rattle.isa.specs.declared.vectors.Cause.the-variants.{Bus, Alignment, Illegal, Range, Syscall, Trap}
@@ -23,15 +24,15 @@ use Rattle.arith.proofs.Sums.{Ranged, bit-lt, address-sum-multiple}
 use Rattle.memory.proofs.Laws.{granted-aligned}
 use Rattle.effect.specs.State.{epcrAt, eearAt, esrAt}
 use Rattle.effect.specs.Effect.{completed, inSlot, onward, advances, restart, exceptionPC, raises, faults, jumping}
-use Rattle.action.specs.Operations.{nop, setsFlag, syscall, flags, sums, sumsOrRaises, jump, branch, registerJump, returns, load, loadLinked, linked, store, storeConditional, touch, setsSpecialRegister}
 use Rattle.effect.specs.declared.types.Inputs.{Inputs}
 use Rattle.effect.specs.declared.types.Board.{Board}
 use Rattle.effect.specs.declared.types.Flow.{Flow}
 use Rattle.effect.specs.declared.types.Link.{Link}
 use Rattle.effect.specs.declared.types.Store.{Store}
+use Rattle.action.specs.Operations.{nop, setsFlag, syscall, flags, sums, sumsOrRaises, jump, branch, registerJump, returns, load, loadLinked, linked, store, storeConditional, touch, setsSpecialRegister}
 use Rattle.semantics.specs.Meaning.{meaning}
 use Rattle.lawful.specs.Inner.{Status, Multiple, LawfulFlow, LawfulLink, Mode, is-halted, is-running, LawfulInputs, LawfulWord, to-register, to-epcr, to-eear, to-esr, completes, raised, Lawful}
-use Rattle.lawful.proofs.Cases.{if-law, if-both, reaches-law}
+use Rattle.lawful.proofs.Reaches.{reaches-law}
 use Rattle.lawful.proofs.Table.{meaning-has}
 
 -- a difference of multiples of 4 is one, whatever their size

@@ -1,5 +1,5 @@
 -- Laws of the definitions: no function here.
-pub mod Cases
+pub mod Reaches
 pub mod Table
 pub mod Sound
 pub mod Accepted

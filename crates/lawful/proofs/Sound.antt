@@ -7,21 +7,22 @@ use Prim.Native.Nat.{ℕ, _%_, _<_}
 use native.Mathlib.Omega.{arith}
 use lib.Dec.{eqb, ltb}
 use lib.ListN.{length}
+use Rattle.bits.proofs.Cases.{if-both}
 use Rattle.isa.specs.declared.vectors.Cause.{Cause}
 use Rattle.isa.specs.declared.vectors.Cause.the-variants.{Alignment}
-use Rattle.memory.specs.Memory.{Width, word-wide, access}
-use Rattle.memory.proofs.Laws.{granted-inside, granted-in-word}
 use Rattle.arith.specs.Bit.{isSet}
 use Rattle.arith.specs.Status.{OVE}
 use Rattle.arith.specs.declared.Flagged.{Flagged}
+use Rattle.memory.specs.Memory.{Width, word-wide, access}
+use Rattle.memory.proofs.Laws.{granted-inside, granted-in-word}
 use Rattle.effect.specs.State.{stateWords, epcrAt, eearAt, esrAt}
 use Rattle.effect.specs.Effect.{inSlot, advances, raises, faults}
-use Rattle.action.specs.Operations.{nop, setsFlag, syscall, sums, sumsOrRaises, jump, branch, registerJump, returns, load, loadLinked, storing, store, linked, storeConditional, touch, setsSpecialRegister, effectiveAddress}
 use Rattle.effect.specs.declared.types.Inputs.{Inputs}
 use Rattle.effect.specs.declared.types.Board.{Board}
+use Rattle.action.specs.Operations.{nop, setsFlag, syscall, sums, sumsOrRaises, jump, branch, registerJump, returns, load, loadLinked, storing, store, linked, storeConditional, touch, setsSpecialRegister, effectiveAddress}
 use Rattle.semantics.specs.Meaning.{meaning}
 use Rattle.lawful.specs.Inner.{Sound, InWord, SoundStore, none, some}
-use Rattle.lawful.proofs.Cases.{if-both, reaches-law}
+use Rattle.lawful.proofs.Reaches.{reaches-law}
 use Rattle.lawful.proofs.Table.{Lines, meaning-has}
 
 -- ---- the effects, one by one

@@ -6,6 +6,7 @@ use Prim.Native.Nat.{ℕ, _*_, _<_}
 use native.Mathlib.Omega.{arith}
 use lib.ListN.{length}
 use Rattle.bits.specs.Choice.{if_then_else_}
+use Rattle.bits.proofs.Cases.{if-both, by-equality}
 use Rattle.effect.specs.State.{stateWords, linkAt, linkAddressAt}
 use Rattle.effect.specs.Effect.{noLink}
 use Rattle.effect.specs.declared.types.Link.{Link}
@@ -14,7 +15,6 @@ use Rattle.effect.specs.declared.types.Board.{Board}
 use Rattle.commit.specs.Commit.{wordAt, coreCount, ownState, clearLinks, writesMemory, touched, statesAfter}
 use Rattle.lawful.specs.Inner.{LawfulWord, to-register, to-epcr, to-eear, to-esr, Lawful}
 use Rattle.lawful.specs.Accepted.{AllAccepted}
-use Rattle.lawful.proofs.Cases.{if-both, by-equality}
 use Rattle.lawful.proofs.Commit.{length-own, own-other, own-accepted, lawful-same}
 use Rattle.lawful.proofs.Links.{linkOf, linkedTo, length-clears, clears-rest, clears-link, clears-accepted}
 

@@ -8,17 +8,17 @@ use lib.Dec.{eqb, ltb}
 use lib.ListN.{length}
 use borrow.Author.Tests.{eqb-true}
 use Rattle.bits.specs.Word.{bitAt}
+use Rattle.bits.proofs.Cases.{if-law, if-both}
 use Rattle.isa.specs.Groups.{firstNopMovhi, firstControl, firstLoad, firstImmediate, firstCompareImmediate, firstStore, firstArithmetic, firstLogic, firstCompare, firstCache, IsBranch}
 use Rattle.arith.specs.Status.{CY}
 use Rattle.arith.specs.declared.Flagged.{Flagged}
 use Rattle.arith.proofs.Sums.{Ranged, sum-ranged, difference-ranged}
 use Rattle.memory.specs.Memory.{Width, byte-wide, half-wide, word-wide}
-use Rattle.action.specs.Operations.{writes, nothing, setsFlag, nop, illegal, trap, syscall, sums, sumsOrRaises, jump, relative, branch, registerJump, returns, load, loadLinked, store, storeConditional, touch, setsSpecialRegister}
 use Rattle.effect.specs.declared.types.Inputs.{Inputs}
 use Rattle.effect.specs.declared.types.Board.{Board}
 use Rattle.effect.specs.declared.types.Effect.{Effect}
+use Rattle.action.specs.Operations.{writes, nothing, setsFlag, nop, illegal, trap, syscall, sums, sumsOrRaises, jump, relative, branch, registerJump, returns, load, loadLinked, store, storeConditional, touch, setsSpecialRegister}
 use Rattle.semantics.specs.Meaning.{branches, nopMovhi, control, loads, immediates, stores, arithmetic, logic, caches, meaning}
-use Rattle.lawful.proofs.Cases.{if-law, if-both}
 
 -- P holds of every effect that a line of the table may be; J is what a jump or branch by its immediate needs
 pub record Lines (P : Effect → Type 0) (J : Type 0) (mem : List ℕ) (x : Inputs) : Type 0 where

@@ -8,23 +8,18 @@ use borrow.Author.Tests.{eq-eqb, le-ltb}
 use lib.Dec.{ltb}
 use lib.ListN.{length, take, drop, length-append, length-drop}
 use Rattle.effect.specs.State.{stateWords}
-use Rattle.text.proofs.Stores.{take-sets}
-use Rattle.engine.specs.Plain.{Plain, plainRun}
-use Rattle.engine.specs.History.{history}
 use Rattle.refusal.specs.Lent.{Lent, Left}
 use Rattle.refusal.specs.Refusal.{fastRefusal}
 use Rattle.refusal.specs.declared.cause.Refusal.{Refusal}
 use Rattle.refusal.proofs.Passes.{cause-number}
-use Rattle.engine.specs.Answer.{number, countsOf, plainOf, FastAnswer}
-use Rattle.engine.specs.declared.answer.Counts.{Counts}
+use Rattle.steps.specs.Plain.{Plain, plainRun, plainOf}
+use Rattle.steps.specs.History.{history}
+use Rattle.steps.specs.declared.counts.Counts.{Counts}
+use Rattle.engine.specs.Answer.{number, countsOf, FastAnswer}
 use Rattle.engine.specs.declared.answer.Answer.{Answer}
 use Rattle.engine.specs.declared.answer.Answer.the-variants.{Ran, Refused}
 use Rattle.engine.proofs.Answers.{fast-runnable}
-use Rattle.report.specs.Answer.{answer, written, resultRoom}
-use Rattle.report.specs.Result.{resultText, refusalText, cores}
-use Rattle.report.specs.declared.Written.{Written}
-use Rattle.report.specs.declared.Written.the-variants.{Bytes, TooSmall}
-use Rattle.report.proofs.Room.{too-small}
+use Rattle.text.proofs.Stores.{take-sets}
 use Rattle.card.specs.Card.{Job, good, cardSays}
 use Rattle.card.specs.Answer.{refusal, told, answered, jobAt, Bounds}
 use Rattle.card.specs.declared.Cause.{Cause}
@@ -35,6 +30,11 @@ use Rattle.card.proofs.Bounds.{good-says as card-says, bad-says}
 use Rattle.job.specs.Job.{imageLength, memoryOf, imageAfter}
 use Rattle.job.specs.Answer.{ReadJob}
 use Rattle.job.proofs.Laws.{right-image, image-laid, length-memory}
+use Rattle.report.specs.Answer.{answer, written, resultRoom}
+use Rattle.report.specs.Result.{resultText, refusalText, cores}
+use Rattle.report.specs.declared.Written.{Written}
+use Rattle.report.specs.declared.Written.the-variants.{Bytes, TooSmall}
+use Rattle.report.proofs.Room.{too-small}
 use Rattle.play.specs.Output.{runText, jobText, verdictText, output}
 use Rattle.play.specs.Answer.{outputRoom, Among, Printed}
 use Rattle.play.specs.Inner.{Ready}

@@ -3,12 +3,12 @@
 use mathlib.Core.List.{List}
 use Prim.Native.Nat.{ℕ, _/_}
 use lib.ListN.{replicate}
+use Rattle.refusal.specs.Lent.{Lent, lent}
+use Rattle.steps.specs.Plain.{plainRun}
+use Rattle.steps.specs.History.{history}
+use Rattle.steps.specs.declared.counts.Counts.{Counts}
 use Rattle.card.specs.Card.{Job, Verdict, good, refused, cardSays}
 use Rattle.job.specs.Job.{memoryOf, entries, resetStates}
-use Rattle.refusal.specs.Lent.{Lent, lent}
-use Rattle.engine.specs.Plain.{plainRun}
-use Rattle.engine.specs.History.{history}
-use Rattle.engine.specs.declared.answer.Counts.{Counts}
 use Rattle.report.specs.Result.{resultText, refusalText}
 
 -- all cores start at the entry

@@ -7,9 +7,9 @@ use native.Mathlib.Omega.{arith}
 use lib.Dec.{T, eqb, leb, leb→le}
 use lib.ListN.{length}
 use Rattle.bits.proofs.Tests.{and-left, and-right, T-of}
+use Rattle.bits.proofs.Cases.{by-equality}
 use Rattle.effect.specs.State.{stateWords}
 use Rattle.commit.specs.Commit.{coreCount}
-use Rattle.lawful.proofs.Cases.{by-equality}
 use Rattle.refusal.specs.Lent.{Lent, boardOf}
 use Rattle.refusal.specs.Refusal.{memoryFits, statesFit, statesObey, scheduleFits, namesCores, cacheFits, entriesRight, runRules, cacheRules, firstBroken, plainRefusal, fastRefusal, refusalNumber}
 use Rattle.refusal.specs.declared.cause.Refusal.{Refusal}

@@ -11,11 +11,10 @@ use lib.ListN.{length, getD, take, drop, drop-of-length-le}
 use lib.Seq.{drop-cons}
 use Rattle.bits.specs.Choice.{if_then_else_}
 use Rattle.bits.proofs.Tests.{and-left, and-right, and-both}
-use Rattle.effect.specs.State.{stateWords, pcAt, delayAt, targetAt, srAt, epcrAt, esrAt, linkAt, linkAddressAt, modeAt}
+use Rattle.bits.proofs.Cases.{by-equality}
+use Rattle.effect.specs.State.{stateWords, pcAt, delayAt, targetAt, srAt, epcrAt, esrAt, linkAt, linkAddressAt, modeAt, all, rules}
 use Rattle.effect.specs.declared.types.Board.{Board}
 use Rattle.commit.specs.Commit.{wordAt}
-use Rattle.effect.specs.State.{all, rules}
-use Rattle.lawful.proofs.Cases.{by-equality}
 use Rattle.commit.proofs.Own.{mid-word}
 use Rattle.commit.specs.Inner.{ownWord}
 use Rattle.refusal.specs.Refusal.{Rule, everyBelow, everyFrom, firstBroken}

@@ -2,8 +2,6 @@
 -- stands beside it.
 use mathlib.Core.List.{List}
 use Prim.Native.Nat.{ℕ}
-use Rattle.isa.specs.InstructionSet.{decode}
-use Rattle.memory.specs.Memory.{memoryWord}
 use Rattle.effect.specs.declared.types.Board.{Board}
 use Rattle.commit.specs.Commit.{coreCount}
 
@@ -26,7 +24,3 @@ left mem s = record { memory = mem; states = s }
 -- what every instruction of a run is given: the core count
 abbrev pub boardOf : Lent → Board
 boardOf l = record { cores = coreCount (l .states) }
-
--- the form of what memory holds at word k, on a board (every board has the same forms)
-unfoldable pub formAt : Board → List ℕ → ℕ → ℕ
-formAt board mem k = decode (memoryWord mem k)

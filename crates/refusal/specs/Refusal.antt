@@ -8,8 +8,9 @@ use Rattle.bits.specs.Choice.{if_then_else_}
 use Rattle.effect.specs.State.{stateWords}
 use Rattle.effect.specs.declared.types.Board.{Board}
 use Rattle.commit.specs.Commit.{coreCount}
+use Rattle.decode_cache.specs.Cache.{formAt}
 use Rattle.lawful.specs.Accepted.{accepted}
-use Rattle.refusal.specs.Lent.{Lent, boardOf, formAt}
+use Rattle.refusal.specs.Lent.{Lent, boardOf}
 use Rattle.refusal.specs.declared.cause.Refusal.{Refusal}
 use Rattle.refusal.specs.declared.cause.Refusal.the-variants.{MemoryLength, StatesLength, StateRule, ScheduleLength, NoSuchCore, CacheLength, CacheEntry}
 use Rattle.refusal.specs.declared.cause.Verdict.{Verdict}

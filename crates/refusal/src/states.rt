@@ -2,12 +2,11 @@
 ghost use mathlib.Core.Path.{_≡_};
 ghost use Prim.Native.Nat.{ℕ, _+_, _*_, _≤_};
 ghost use lib.ListN.{length, drop};
-ghost use Rattle.effect.specs.State.{stateWords};
+ghost use Rattle.effect.specs.State.{stateWords, all, rules};
 ghost use Rattle.effect.specs.declared.types.Board.{Board};
 ghost use Rattle.commit.specs.Commit.{coreCount};
-ghost use Rattle.effect.specs.State.{all, rules};
-ghost use Rattle.lawful.specs.Accepted.{accepted};
 ghost use Rattle.commit.specs.Inner.{ownWord};
+ghost use Rattle.lawful.specs.Accepted.{accepted};
 ghost use Rattle.refusal.specs.Refusal.{statesObey};
 ghost use Rattle.refusal.specs.Inner.{unsetIsZero, isMode};
 use effect::state;

@@ -8,13 +8,13 @@ use lib.Dec.{eqb}
 use lib.ListN.{length, getD, take, drop, length-append, length-take}
 use lib.Seq.{getD-drop, sets-eq}
 use borrow.Author.Tests.{lt-ltb, le-ltb, eqb-true, eqb-false}
+use Rattle.effect.specs.State.{stateWords}
+use Rattle.steps.specs.declared.counts.Counts.{Counts}
 use Rattle.print.specs.Digits.{decimal}
 use Rattle.print.specs.Inner.{Put}
 use Rattle.print.proofs.Places.{decimal-le, length-hexadecimal}
-use Rattle.effect.specs.State.{stateWords}
 use Rattle.report.specs.Answer.{countsRoom, coreRoom, refusalRoom, answer, written}
 use Rattle.report.specs.Result.{registers, countLines, coreLine, registerLine, registerLines, coreText, coreTexts, refusalText}
-use Rattle.engine.specs.declared.answer.Counts.{Counts}
 use Rattle.report.specs.declared.Written.the-variants.{Bytes, TooSmall}
 use Rattle.report.proofs.Lines.{register-zero, register-other}
 

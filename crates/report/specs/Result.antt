@@ -6,10 +6,10 @@ use Prim.Native.String.{String}
 use lib.Dec.{eqb}
 use lib.ListN.{length, getD, take, drop}
 use Rattle.bits.specs.Choice.{if_then_else_}
+use Rattle.effect.specs.State.{stateWords, pcAt, delayAt, srAt, modeAt}
+use Rattle.steps.specs.declared.counts.Counts.{Counts}
 use Rattle.text.specs.Ascii.{ascii}
 use Rattle.print.specs.Digits.{decimal, hexadecimal}
-use Rattle.effect.specs.State.{stateWords, pcAt, delayAt, srAt, modeAt}
-use Rattle.engine.specs.declared.answer.Counts.{Counts}
 
 -- a key, and its value: in decimal, or as a word of "eight lower-case hexadecimal digits"
 abbrev pub keyedDecimal : String → ℕ → List ℕ

@@ -9,10 +9,10 @@ use lib.ListN.{length}
 use borrow.Author.Tests.{lt-ltb, le-ltb}
 use Rattle.bits.proofs.Tests.{NoneOf, and-left, and-right}
 use Rattle.isa.specs.Groups.{firstBranch, firstNopMovhi, firstControl, firstLoad, firstImmediate, firstCompareImmediate, firstStore, firstArithmetic, firstLogic, firstCompare, firstCache, IsNopMovhi, IsControl, IsLoad, IsImmediate, IsCompareImmediate, IsStore, IsArithmetic, IsLogic, IsCompare}
-use Rattle.action.specs.Operations.{illegal}
 use Rattle.effect.specs.declared.types.Inputs.{Inputs}
 use Rattle.effect.specs.declared.types.Board.{Board}
 use Rattle.effect.specs.declared.types.Effect.{Effect}
+use Rattle.action.specs.Operations.{illegal}
 use Rattle.semantics.specs.Meaning.{branches, nopMovhi, control, loads, immediates, stores, arithmetic, logic, compares, caches, groups, grouped, meaning}
 
 -- ---- the keys of a match on a group: n numbers from low up, in the shape that the match leaves

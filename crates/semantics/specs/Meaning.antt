@@ -16,11 +16,11 @@ use Rattle.arith.specs.Sums.{sum, difference}
 use Rattle.arith.specs.Compare.{holds}
 use Rattle.arith.specs.Shift.{shiftLeft, shiftRight, shiftRightSigned, rotateRight, highHalf}
 use Rattle.arith.specs.Place.{least, greatest}
-use Rattle.commit.specs.Commit.{inputs}
-use Rattle.action.specs.Operations.{writes, nothing, setsFlag, nop, illegal, trap, syscall, sums, sumsOrRaises, jump, relative, afterSlot, branch, registerJump, returns, load, loadLinked, store, storeConditional, touch, specialRegister, setsSpecialRegister}
 use Rattle.effect.specs.declared.types.Inputs.{Inputs}
 use Rattle.effect.specs.declared.types.Board.{Board}
 use Rattle.effect.specs.declared.types.Effect.{Effect}
+use Rattle.action.specs.Operations.{writes, nothing, setsFlag, nop, illegal, trap, syscall, sums, sumsOrRaises, jump, relative, afterSlot, branch, registerJump, returns, load, loadLinked, store, storeConditional, touch, specialRegister, setsSpecialRegister}
+use Rattle.commit.specs.Commit.{inputs}
 
 -- jumps and branches by an immediate; below them kind 1, which is illegal, and no kind
 unfoldable pub branches : ℕ → Inputs → Effect

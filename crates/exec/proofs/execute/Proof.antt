@@ -3,8 +3,7 @@ use native.Mathlib.Omega.{arith}
 use denote.Ref.{now}
 use Rattle.effect.specs.State.{stateWords}
 use borrow.Rule.Slice.PartMut.{same-len-mid}
-use Rattle.exec.proofs.Executes.{executed-kept, executed-stored}
-use Rattle.exec.proofs.Executes.{performed-here, committed-here}
+use Rattle.exec.proofs.Executes.{executed-kept, executed-stored, performed-here, committed-here}
 use borrow.Author.Needs.{needs}
 use Rattle.exec.proofs.execute.Statement.{statement}
 use Rattle.exec.proofs.execute.Tie as tie

@@ -6,12 +6,11 @@ use Rattle.isa.specs.declared.vectors.Cause.the-variants.{Bus}
 use Rattle.effect.specs.declared.types.Inputs.{Inputs}
 use Rattle.effect.specs.Inner.{effectBy}
 use Rattle.effect.specs.Effect.{raises, faults}
+use Rattle.effect.specs.State.{stateWords}
 use Rattle.commit.specs.Commit.{inputs, fetchFault}
 use Rattle.commit.proofs.Own.{mid-words, mid-committed}
-use Rattle.commit.proofs.Own.{mid-committed}
 use Rattle.commit.proofs.Commits.{placed-as, owned-as, kept}
 use Rattle.exec.proofs.Executes.{executed-kept}
-use Rattle.effect.specs.State.{stateWords}
 use borrow.Author.Needs.{needs}
 use Rattle.exec.proofs.fetch_fault.Statement.{statement}
 use Rattle.exec.proofs.fetch_fault.Tie as tie

@@ -1,5 +1,5 @@
-use Rattle.action.specs.Operations.{sums}
 use Rattle.isa.specs.Groups.{firstImmediate}
+use Rattle.action.specs.Operations.{sums}
 use Rattle.semantics.specs.Meaning.{immediates}
 use borrow.Author.Needs.{needs}
 use Rattle.semantics.proofs.Groups.{all-keys}

@@ -1,8 +1,8 @@
 use mathlib.Core.Path.{sym, _∙_}
 use lib.ListN.{length}
 use Rattle.memory.proofs.Laws.{granted-tag, granted-inside}
-use Rattle.action.specs.Operations.{load}
 use Rattle.effect.specs.Inner.{effectBy}
+use Rattle.action.specs.Operations.{load}
 use Rattle.action.proofs.Access.{answered, faulted}
 use borrow.Author.Needs.{needs}
 use Rattle.action.proofs.accesses.load.Statement.{statement}

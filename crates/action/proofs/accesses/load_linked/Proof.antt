@@ -2,9 +2,9 @@ use mathlib.Core.Path.{sym, _∙_}
 use lib.ListN.{length}
 use Rattle.memory.proofs.Laws.{granted-tag, granted-inside}
 use Rattle.memory.specs.Memory.{word-wide}
+use Rattle.effect.specs.Inner.{effectBy}
 use Rattle.action.specs.Operations.{loadLinked}
 use Rattle.action.proofs.Access.{answered, faulted}
-use Rattle.effect.specs.Inner.{effectBy}
 use borrow.Author.Needs.{needs}
 use Rattle.action.proofs.accesses.load_linked.Statement.{statement}
 use Rattle.action.proofs.accesses.load_linked.Tie as tie

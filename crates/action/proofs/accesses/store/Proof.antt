@@ -1,6 +1,6 @@
+use Rattle.effect.specs.Inner.{effectBy}
 use Rattle.action.proofs.Access.{answered, faulted}
 use Rattle.action.specs.Operations.{store}
-use Rattle.effect.specs.Inner.{effectBy}
 use borrow.Author.Needs.{needs}
 use Rattle.action.proofs.accesses.store.Statement.{statement}
 use Rattle.action.proofs.accesses.store.Tie as tie

@@ -1,7 +1,7 @@
 use Rattle.memory.specs.Memory.{byte-wide}
+use Rattle.effect.specs.Inner.{effectBy}
 use Rattle.action.proofs.Access.{answered, faulted}
 use Rattle.action.specs.Operations.{touch}
-use Rattle.effect.specs.Inner.{effectBy}
 use borrow.Author.Needs.{needs}
 use Rattle.action.proofs.accesses.touch.Statement.{statement}
 use Rattle.action.proofs.accesses.touch.Tie as tie

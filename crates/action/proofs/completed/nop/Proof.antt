@@ -1,6 +1,6 @@
 use borrow.Author.Tests.{eq-eqb, ne-eqb}
-use Rattle.action.specs.Operations.{nop}
 use Rattle.effect.specs.Inner.{effectBy}
+use Rattle.action.specs.Operations.{nop}
 use borrow.Author.Needs.{needs}
 use Rattle.action.proofs.completed.nop.Statement.{statement}
 use Rattle.action.proofs.completed.nop.Tie as tie

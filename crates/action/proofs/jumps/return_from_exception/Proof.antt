@@ -1,6 +1,6 @@
 use mathlib.Core.Path.{sym, _∙_}
-use Rattle.action.specs.Operations.{returns as returnsOf}
 use Rattle.effect.specs.Inner.{effectBy}
+use Rattle.action.specs.Operations.{returns as returnsOf}
 use borrow.Author.Needs.{needs}
 use Rattle.action.proofs.jumps.return_from_exception.Statement.{statement}
 use Rattle.action.proofs.jumps.return_from_exception.Tie as tie

@@ -2,9 +2,9 @@ use mathlib.Core.Path.{ap, _∙_}
 use Prim.Native.Nat.{_+_, _-_, _*_}
 use native.Mathlib.Omega.{arith}
 use denote.Ref.{now}
+use Rattle.effect.specs.State.{stateWords}
 use Rattle.commit.specs.Commit.{inputs}
 use Rattle.commit.proofs.Own.{mid-inputs}
-use Rattle.effect.specs.State.{stateWords}
 use borrow.Author.Needs.{needs}
 use Rattle.commit.proofs.inputs.state_at.Statement.{statement}
 use Rattle.commit.proofs.inputs.state_at.Tie as tie

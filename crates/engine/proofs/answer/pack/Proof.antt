@@ -1,7 +1,8 @@
 use mathlib.Core.Path.{subst}
 use native.Mathlib.Omega.{arith}
 use Rattle.refusal.specs.Refusal.{maxSchedule}
-use Rattle.engine.specs.Answer.{countsOf, AtMost}
+use Rattle.steps.specs.Counts.{AtMost}
+use Rattle.engine.specs.Answer.{countsOf}
 use Rattle.engine.specs.declared.answer.Answer.{Answer}
 use borrow.Author.Needs.{needs}
 use Rattle.engine.proofs.answer.pack.Statement.{statement}

@@ -1,5 +1,5 @@
 use borrow.Author.Tests.{eq-eqb, ne-eqb}
-use Rattle.refusal.specs.Lent.{formAt}
+use Rattle.decode_cache.specs.Cache.{formAt}
 use borrow.Author.Needs.{needs}
 use Rattle.refusal.proofs.cache.entry_right.Statement.{statement}
 use Rattle.refusal.proofs.cache.entry_right.Tie as tie

@@ -1,0 +1,66 @@
+-- The fast run's entries: document 01, "Fast run". They are defined for every decode cache (the paper's table): also where an entry is not its
+-- word's form, which refusal 7 keeps out of runs, and for an empty cache, with which they are the plain run's.
+use mathlib.Core.List.{List, [], _∷_}
+use Prim.Native.Nat.{ℕ, _+_}
+use lib.ListN.{getD, set}
+use Rattle.bits.specs.Choice.{if_then_else_}
+use Rattle.effect.specs.declared.types.Board.{Board}
+use Rattle.effect.specs.declared.types.Effect.{Effect}
+use Rattle.commit.specs.Commit.{fetchFault, writesMemory, touched, raisedBy}
+use Rattle.decode_cache.specs.Cache.{filled, cachedForm}
+use Rattle.semantics.specs.Meaning.{effectOf}
+use Rattle.steps.specs.Plain.{Plain, isRunning, isInside, fetched, plainAfter}
+use Rattle.steps.specs.declared.counts.Counts.{Counts}
+use Rattle.steps.specs.declared.Turn.{Turn}
+use Rattle.steps.specs.declared.Turn.the-variants.{Idle, FetchFault, Instruction}
+
+-- what a fast run has come to: what a plain run has, the decode cache, and the count of fetches that found their entry filled
+pub record Fast : Type 0 where
+  pub plain : Plain
+  pub cache : List ℕ
+  pub reused : ℕ
+
+-- "a store then empties the entry of the word it touches, even if that is the running one or the value is the same"
+unfoldable pub emptied : Effect → List ℕ → List ℕ
+emptied e l = if writesMemory e then set l (touched e) 0 else l
+
+-- "a fetch inside memory counts as reused if its entry is filled and otherwise fills it" (a filled one stays as it is)
+unfoldable pub fastFetch : Board → Fast → ℕ → ℕ → Effect → Fast
+fastFetch board x core k e = record {
+  plain = plainAfter (x .plain) core e;
+  cache = emptied e (set (x .cache) k (cachedForm board (x .plain .memory) (x .cache) k));
+  reused = x .reused + filled (getD (x .cache) k 0);
+}
+
+-- "No entry changes otherwise."
+unfoldable pub fastFault : Fast → ℕ → Fast
+fastFault x core = record { plain = plainAfter (x .plain) core (fetchFault (x .plain .states) core); cache = x .cache; reused = x .reused }
+
+unfoldable pub fastStep : Board → Fast → ℕ → Fast
+fastStep board x core =
+    let mem = x .plain .memory in
+    let s = x .plain .states in
+    let k = fetched s core in
+    if isRunning s core then
+    (if isInside mem s core then fastFetch board x core k (effectOf board mem s core (cachedForm board mem (x .cache) k)) else fastFault x core) else
+    x
+
+-- "A step ends in a completed instruction or in one exception": what the entry of a core hands up to the run
+unfoldable pub turnOf : Board → List ℕ → List ℕ → List ℕ → ℕ → Turn
+turnOf board mem s cache core =
+    let k = fetched s core in
+    if isRunning s core then
+    (if isInside mem s core then Instruction (effectOf board mem s core (cachedForm board mem cache k) .outcome) (filled (getD cache k 0)) else
+    FetchFault (fetchFault s core .outcome)) else
+    Idle
+
+-- what the run makes of it: "executed (entries of running cores), raised (those that took an exception), reused"
+abbrev pub countsAfter : Counts → Turn → Counts
+countsAfter n Idle = n
+countsAfter n (FetchFault o) = record { executed = n .executed + 1; raised = n .raised + raisedBy o; reused = n .reused }
+countsAfter n (Instruction o u) = record { executed = n .executed + 1; raised = n .raised + raisedBy o; reused = n .reused + u }
+
+-- "The schedule's entries go in order, each on what the last left."
+unfoldable pub fastFrom : Board → List ℕ → Fast → Fast
+fastFrom board [] x = x
+fastFrom board (core ∷ schedule) x = fastFrom board schedule (fastStep board x core)

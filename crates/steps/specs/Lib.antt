@@ -1,0 +1,6 @@
+-- Both runs, entry by entry: Counts; Plain; Fast, which builds on it; History. Inner serves the code and the proofs.
+pub mod Counts
+pub mod Plain
+pub mod Fast
+pub mod History
+pub mod Inner
