@@ -42,7 +42,7 @@ fn form(memory: &[u8], k: usize, entry: u64) -> u64
     if entry != 0 {
         return entry;
     }
-    isa::decoder::decode(memory::load_word(memory, 4 * k))
+    codec::decoder::decode(memory::load_word(memory, 4 * k))
 }
 
 // The form of the word at pc: its entry, which is filled if it was empty; or 0 if the word is outside memory. A filled entry is of a word inside.

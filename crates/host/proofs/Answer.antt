@@ -2,9 +2,9 @@
 use mathlib.Core.Path.{refl, ap}
 use Prim.Native.Nat.{ℕ, _^_, _<_}
 use native.Mathlib.Omega.{arith}
-use Rattle.isa.specs.Encoding.{number, Encodes}
-use Rattle.isa.specs.declared.encoder.Encoded.{Encoded}
-use Rattle.isa.specs.declared.encoder.Encoded.the-variants.{Word, Refused}
+use Rattle.codec.specs.Encoding.{number, Encodes}
+use Rattle.codec.specs.declared.encoder.Encoded.{Encoded}
+use Rattle.codec.specs.declared.encoder.Encoded.the-variants.{Word, Refused}
 use Rattle.host.specs.Interface.{Answers}
 
 pub answers : (e : ℕ) (a : Encoded) → Encodes e a → Answers e (number a)

@@ -3,7 +3,7 @@ use mathlib.Core.List.{List}
 use mathlib.Core.Path.{_≡_}
 use Prim.Native.Nat.{ℕ, _/_, _%_, _^_, _<_, _≤_}
 use Rattle.isa.specs.InstructionSet.{decode}
-use Rattle.isa.specs.Encoding.{encode, number}
+use Rattle.codec.specs.Encoding.{encode, number}
 use Rattle.refusal.specs.Lent.{Lent, Left}
 use Rattle.steps.specs.declared.counts.Counts.{Counts}
 use Rattle.engine.specs.Answer.{number as refusalIn, countsOf, packedAnswer, PlainAnswer, FastAnswer}

@@ -1,10 +1,10 @@
 // What C and Rust programs call: plain numbers in and out.
 ghost use mathlib.Core.Path.{_≡_};
 ghost use Rattle.isa.specs.InstructionSet.{decode};
-ghost use Rattle.isa.specs.Encoding.{number as numberOf};
+ghost use Rattle.codec.specs.Encoding.{number as numberOf};
 ghost use Rattle.refusal.specs.Lent.{lent, left};
 ghost use Rattle.host.specs.Interface.{Answers, PlainRun, FastRun};
-use isa::encoder::Encoded;
+use codec::encoder::Encoded;
 
 // Refusal 8: no 32-bit word decodes to the entry.
 const NO_WORD: u64 = 0x1_0000_0000;
@@ -23,14 +23,14 @@ fn number(answer: Encoded) -> u64
 pub extern "C" fn or1k_decode(word: u32) -> u64
     ensures { λ r. ⌜ r ≡ decode word ⌝ }
 {
-    isa::decoder::decode(word)
+    codec::decoder::decode(word)
 }
 
 #[no_mangle]
 pub extern "C" fn or1k_encode(entry: u64) -> u64
     ensures { λ r. ⌜ Answers entry r ⌝ }
 {
-    number(isa::encoder::encode(entry))
+    number(codec::encoder::encode(entry))
 }
 
 #[no_mangle]

@@ -1,6 +1,6 @@
 -- Every word's entry has a word: the one with its reserved bits 0. Assumes nothing.
-use mathlib.Core.Path.{_≡_, refl, _∙_, subst, sym, ap, ap₂}
-use mathlib.Core.Bool.{Bool, true, false, _&&_}
+use mathlib.Core.Path.{_≡_, refl, _∙_, subst, sym, ap}
+use mathlib.Core.Bool.{Bool, _&&_}
 use mathlib.Core.Logic.{⊎-elim}
 use Prim.Native.Nat.{ℕ, _+_, _*_, _/_, _%_, _^_, _≤_, _<_}
 use native.Mathlib.Nat.{mod-eq-of-lt}
@@ -8,28 +8,16 @@ use native.Mathlib.Omega.{arith}
 use lib.Pow.{pow-mono, high}
 use lib.Dec.{T, eqb, leb, ltb, eqb→eq, leb→le, ltb→lt}
 use lib.ListN.{length}
-use borrow.Author.Tests.{eq-eqb, ne-eqb, eqb-true, eqb-false}
 use Rattle.bits.specs.Word.{field}
+use Rattle.bits.proofs.Cases.{by-equality}
 use Rattle.bits.proofs.Tests.{and-left, and-right}
-use Rattle.isa.specs.Groups.{kinds}
 use Rattle.isa.specs.InstructionSet.{Field, D, A, B, I, Row, rows, illegal, fits, firstFit, rowOf, kindRow, width, read, immediate, immediateBits, pack, entry, decode, value, fill, wordFor, candidate}
-use Rattle.isa.specs.Encoding.{encode, Encodes}
-use Rattle.isa.specs.Entry.{fieldsOf}
-use Rattle.isa.specs.Inner.{kindOf, packed, fieldsIn, bitsOf}
-use Rattle.isa.specs.declared.encoder.Encoded.the-variants.{Word, Refused}
-use Rattle.isa.specs.declared.entry.Fields.{Fields}
+use Rattle.isa.specs.Inner.{kindOf, packed, fieldsIn}
 use Rattle.isa.specs.declared.kinds.Shape.{Shape}
 use Rattle.isa.proofs.Immediates.{form-width, immediate-lt, immediate-back}
 use Rattle.isa.proofs.Pictures.{Agree, Holds, read-lt, entry-same, fill-fits-lt, filled-agrees}
 use Rattle.isa.proofs.Shapes.{Describes}
-use Rattle.isa.proofs.Rows.{hit, found-row, every-row, first-has, kind-range, illegal-entry, own-row}
-
-by-equality : (a b : ℕ) (P : Type 0) → (a ≡ b → P) → ((a ≡ b → ⊥) → P) → P
-by-equality a b P f g = go (eqb a b) refl
-  where
-    go : (t : Bool) → eqb a b ≡ t → P
-    go true e = f (eqb-true a b e)
-    go false e = g (eqb-false a b e)
+use Rattle.isa.proofs.Rows.{hit, found-row, every-row, first-has, illegal-entry, own-row}
 
 -- ---- the row of a word's kind has the word's entry
 
@@ -55,7 +43,7 @@ kind-legal w n = ap (λ (r : Row). r .kind) (own-row w n)
 
 pub own-entry : (w : ℕ) (t : Shape) → Describes (kindOf w) t → packed (kindOf w) (fieldsIn t w) ≡ decode w
 own-entry w t d =
-    by-equality (kindOf w) 1 (packed (kindOf w) (fieldsIn t w) ≡ decode w)
+    by-equality (kindOf w) 1
     (λ e.
     let k : kindRow (kindOf w) ≡ illegal = ap kindRow e ∙ illegal-row in
     ap (λ n. packed n (fieldsIn t w)) (e ∙ sym (ap (λ (r : Row). r .kind) k))
@@ -183,9 +171,9 @@ module _ (r : Row) (w : ℕ) (s : Sized r) (h : T (hit r w)) where
   word-lt l = let a : w / 2 ^ 26 ≡ r .opcode = row-opcode in let b : fill (r .bits) (value (r .form) (entry r w)) < 2 ^ 26 = filled-lt in omega arith
 
 -- a word and the word for its entry
-record Recoded (w c : ℕ) : Type 0 where
-  again : decode c ≡ decode w
-  small : w < 2 ^ 32 → c < 2 ^ 32
+pub record Recoded (w c : ℕ) : Type 0 where
+  pub again : decode c ≡ decode w
+  pub small : w < 2 ^ 32 → c < 2 ^ 32
 
 kind-first : (w : ℕ) → kindOf w ≡ firstFit rows w .kind
 unfolding kindOf
@@ -230,63 +218,11 @@ recoded-legal w n =
     })
     (found-row w)
 
-recoded : (w : ℕ) → Recoded w (candidate (decode w))
-recoded w = by-equality (kindOf w) 1 (Recoded w (candidate (decode w))) (recoded-illegal w) (recoded-legal w)
+pub recoded : (w : ℕ) → Recoded w (candidate (decode w))
+recoded w = by-equality (kindOf w) 1 (recoded-illegal w) (recoded-legal w)
 
--- ---- what the encoder promises
+-- ---- the kind of an entry
 
--- every word's entry encodes, to a word that decodes to it
-pub complete : (w : ℕ) → w < 2 ^ 32 → (encode (decode w) ≡ Word (candidate (decode w))) × (candidate (decode w) < 2 ^ 32) × (decode (candidate (decode w)) ≡ decode w)
-unfolding encode
-complete w l =
-    let r = recoded w in
-    (rw (eq-eqb (decode (candidate (decode w))) (decode w) (r .again)), r .small l, r .again)
-
-taken : (e : ℕ) → decode (candidate e) ≡ e → encode e ≡ Word (candidate e)
-unfolding encode
-taken e h = rw (eq-eqb (decode (candidate e)) e h)
-
-refused : (e : ℕ) → (decode (candidate e) ≡ e → ⊥) → encode e ≡ Refused
-unfolding encode
-refused e h = rw (ne-eqb (decode (candidate e)) e h)
-
-pub encodes-word : (e c : ℕ) → c ≡ candidate e → c < 2 ^ 32 → decode c ≡ e → Encodes e (Word c)
-encodes-word e c h l d =
-    record {
-      exact = ap Word h ∙ sym (taken e (rw h at d));
-      sound = λ q. (l, d);
-      complete = λ q. absurd (omega (arith, q));
-    }
-
-pub encodes-none : (e : ℕ) → (decode (candidate e) ≡ e → ⊥) → Encodes e Refused
-encodes-none e n =
-    record {
-      exact = sym (refused e n);
-      sound = λ q. absurd (omega (arith, q));
-      complete = λ q w l d. n (ap (λ x. decode (candidate x)) (sym d) ∙ recoded w .again ∙ d);
-    }
-
--- a number above the kinds is no entry's kind
 pub decode-kind : (w : ℕ) → field (decode w) 56 8 ≡ kindOf w
 unfolding decode
 decode-kind w = entry-kind (firstFit rows w) w (first-sized w) ∙ sym (kind-first w)
-
-pub encodes-high : (e : ℕ) → kinds ≤ field e 56 8 → Encodes e Refused
-encodes-high e h =
-    encodes-none e (λ q.
-    let k : field e 56 8 ≡ kindOf (candidate e) = ap (λ n. field n 56 8) (sym q) ∙ decode-kind (candidate e) in
-    let l : kindOf (candidate e) < kinds = kind-range (candidate e) .1 in
-    omega arith)
-
--- the word that the code makes for an entry
-module _ (e k bare bits : ℕ) (t : Shape) (f : Fields) (kind : k ≡ field e 56 8) (d : Describes k t) (b : bare ≡ wordFor (kindRow k) 0)
-    (g : bits ≡ bitsOf t f) (h : f ≡ fieldsOf e) where
-  made-word : bare + bits ≡ wordFor (kindRow k) e
-  made-word = ap₂ (λ m n. m + n) b (g ∙ ap (bitsOf t) h) ∙ sym (d .word e)
-
-  pub made : bare + bits ≡ candidate e
-  unfolding candidate
-  made = made-word ∙ ap (λ n. wordFor (kindRow n) e) kind
-
-  pub made-lt : bare + bits < 2 ^ 32
-  made-lt = subst (λ (n : ℕ). n < 2 ^ 32) (sym made-word) (d .small e)

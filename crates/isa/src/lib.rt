@@ -1,6 +1,4 @@
-// The instruction set: which word is which instruction, and the 64-bit entry of each.
-pub mod decoder;
-pub mod encoder;
+// The instruction set: its kinds and their layouts, the 64-bit entry of an instruction, and the vectors.
 pub mod entry;
 pub mod groups;
 pub mod kinds;

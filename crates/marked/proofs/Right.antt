@@ -2,7 +2,7 @@
 use lib.Dec.{T}
 use Rattle.bits.specs.Word.{signed, word, extend}
 use Rattle.isa.specs.InstructionSet.{rows, fits, firstFit, width, read, immediate, entry, decode, rowOf, kindRow, fill, value, immediateBits, wordFor, candidate}
-use Rattle.isa.specs.Encoding.{encode}
+use Rattle.codec.specs.Encoding.{encode}
 use Rattle.arith.specs.Bit.{setBit}
 use Rattle.arith.specs.Status.{exceptionSR}
 use Rattle.arith.specs.Sums.{addressDifference, sum, difference, fits as fits-signed}

@@ -7,7 +7,7 @@ use lib.Dec.{eqb, ltb}
 use Rattle.bits.specs.Choice.{if_then_else_}
 use Rattle.bits.specs.Word.{field}
 use Rattle.isa.specs.InstructionSet.{decode}
-use Rattle.isa.specs.Encoding.{encode, number}
+use Rattle.codec.specs.Encoding.{encode, number}
 use Rattle.isa.specs.Vectors.{vector}
 use Rattle.isa.specs.declared.vectors.Cause.{Cause}
 use Rattle.isa.specs.declared.vectors.Cause.the-variants.{Bus, Alignment}

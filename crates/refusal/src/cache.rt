@@ -13,7 +13,7 @@ fn entry_right(memory: &[u8], k: usize, entry: u64) -> bool
     if entry == 0 {
         return true;
     }
-    entry == isa::decoder::decode(memory::load_word(memory, 4 * k))
+    entry == codec::decoder::decode(memory::load_word(memory, 4 * k))
 }
 
 pub fn entries_right(memory: &[u8], cache: &[u64]) -> bool

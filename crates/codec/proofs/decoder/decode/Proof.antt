@@ -1,0 +1,30 @@
+use mathlib.Core.Path.{ap, subst, _∙_}
+use Prim.Native.Nat.{ℕ}
+use Rattle.isa.specs.Inner.{packed, fieldsIn}
+use Rattle.isa.proofs.Shapes.{Describes, describes}
+use Rattle.isa.proofs.Complete.{own-entry}
+use borrow.Author.Needs.{needs}
+use Rattle.codec.proofs.decoder.decode.Statement.{statement}
+use Rattle.codec.proofs.decoder.decode.Tie as tie
+
+kind-of-requires : tie.Need-kind-of-requires
+kind-of-requires c κs = search needs
+
+shape-of-requires : tie.Need-shape-of-requires
+shape-of-requires c κs = search needs
+
+fields-requires : tie.Need-fields-requires
+fields-requires c κs = search needs
+
+pack-requires : tie.Need-pack-requires
+pack-requires c κs = search needs
+
+returns : tie.Need-returns
+returns c = let w = c .before .before .before .before .args .w in
+    let k = c .before .before .before .kind-of .ensures .0 in
+    let t = c .before .before .shape-of .result in
+    let d = subst (λ (n : ℕ). Describes n t) k (describes _ (search needs) (c .before .before .shape-of .ensures)) in
+    c .pack .ensures ∙ ap (packed (c .before .before .before .kind-of .result)) (c .before .fields .ensures .0) ∙ ap (λ n. packed n (fieldsIn t w)) k ∙ own-entry w t d
+
+pub decode-spec : {M : Type 1} → statement M
+decode-spec = tie.close (tie.spec kind-of-requires shape-of-requires fields-requires pack-requires returns)
