@@ -70,6 +70,7 @@ sumsOrRaises x f =
 
 -- ---- jumps
 
+-- v goes to place, and execution goes on at `to` after the slot
 unfoldable pub jump : Inputs → ℕ → ℕ → ℕ → Effect
 jump x place v to = outsideSlot x (jumping x place v to)
 
@@ -109,9 +110,11 @@ reaches x n len e = granted x (access n len (effectiveAddress x)) (effectiveAddr
 unfoldable pub load : Inputs → List ℕ → ℕ → Bool → Effect
 load x mem n sign = reaches x n (length mem) (writes x (extend sign (8 * n) (loaded n mem (effectiveAddress x))))
 
+-- l.lwa
 unfoldable pub loadLinked : Inputs → List ℕ → Effect
 loadLinked x mem = reaches x 4 (length mem) (linking x (x .d) (loaded 4 mem (effectiveAddress x)) (effectiveAddress x))
 
+-- the low n bytes of rB, at the address
 abbrev pub storing : Inputs → ℕ → Store
 storing x n = record { width = n; address = effectiveAddress x; value = x .b }
 
