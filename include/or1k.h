@@ -61,7 +61,7 @@ enum {
     OR1K_SR_F = 1 << 9,    /* flag */
     OR1K_SR_CY = 1 << 10,  /* carry or borrow */
     OR1K_SR_OV = 1 << 11,  /* overflow */
-    OR1K_SR_OVE = 1 << 12, /* overflow raises a range exception */
+    OR1K_SR_OVE = 1 << 12, /* a sum or difference that overflows, with an immediate too, raises a range exception */
     OR1K_SR_DSX = 1 << 13, /* the last exception was in a delay slot */
     OR1K_SR_FO = 1 << 15,  /* always 1 */
     OR1K_SR_RESET = OR1K_SR_FO | OR1K_SR_SM

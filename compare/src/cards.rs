@@ -12,7 +12,7 @@ pub fn good_lines(rng: &mut Rng) -> Vec<String> {
         1 => 16_384,
         _ => 4 * rng.between(1_024, 4_096),
     };
-    let words = match rng.below(16) {
+    let count = match rng.below(16) {
         0 => memory / 4,
         1 => 0,
         _ => rng.between(1, 120),
@@ -26,10 +26,20 @@ pub fn good_lines(rng: &mut Rng) -> Vec<String> {
         format!("entry={entry:08x}"),
         format!("steps={steps}"),
         format!("schedule={}", digits(rng, cores)),
-        format!("words={words}"),
+        format!("words={count}"),
     ];
-    lines.extend((0..words).map(|_| format!("w={:08x}", programs::program_word(rng))));
+    lines.extend(words(rng, count, entry).iter().map(|word| format!("w={word:08x}")));
     lines
+}
+
+/// A program; every second one turns overflow traps on where it is entered.
+fn words(rng: &mut Rng, count: usize, entry: u32) -> Vec<u32> {
+    let mut words: Vec<u32> = (0..count).map(|_| programs::program_word(rng)).collect();
+    let (first, start) = (entry as usize / 4, programs::trapping_start(rng));
+    if rng.one_in(2) && first + start.len() <= count {
+        words[first..first + start.len()].copy_from_slice(&start);
+    }
+    words
 }
 
 /// One to sixteen digits that name cores.

@@ -4,7 +4,7 @@ use crate::isa::{self, Insn, Kind};
 use crate::programs;
 use crate::rng::Rng;
 use crate::runs::{MEMORY_MOST, SCHEDULE_MOST};
-use crate::state::{allowed_sr, place, SHEET_WORDS, SR_BITS};
+use crate::state::{allowed_sr, place, OVE, SHEET_WORDS, SR_BITS, SR_RESET};
 
 /// Everything that a fast run is lent; a plain run leaves the table aside.
 #[derive(Clone, Debug, PartialEq, Eq, Default)]
@@ -150,6 +150,7 @@ fn accepted_sheet(rng: &mut Rng, bytes: u32) -> [u32; SHEET_WORDS] {
             1..=4 | 9 => address(rng, bytes),
             5..=8 => programs::program_word(rng),
             10 | 11 => rng.pick(&[0x7fff_ffff, 0x8000_0000, 0xc000_0000, 0x4000_0000]),
+            16..=19 => rng.border_word(),
             _ => rng.edge_word(),
         };
     }
@@ -180,11 +181,13 @@ fn address(rng: &mut Rng, bytes: u32) -> u32 {
     }
 }
 
+/// SR or ESR: as at reset or any, mostly with OVE, for every exception clears
+/// it.
 fn status(rng: &mut Rng) -> u32 {
-    if rng.one_in(3) {
-        0x8001
-    } else {
-        allowed_sr(rng.next_u32())
+    match rng.below(4) {
+        0 => SR_RESET,
+        1 => allowed_sr(rng.next_u32()),
+        _ => allowed_sr(rng.next_u32() | OVE),
     }
 }
 

@@ -283,8 +283,9 @@ fn sum(core: &mut Core, insn: Insn) -> Outcome {
     core.set(insn.d, low);
     core.put(CY, carried);
     core.put(OV, overflow);
-    // "addi and addic set the flags and never raise"
-    if overflow && core.has(OVE) && !immediate {
+    // "raise range after rD and flags are written"; 02, note 1: "l.addi and
+    // l.addic raise range on OV with OVE, ... as l.add does".
+    if overflow && core.has(OVE) {
         return Err(Cause::Range.plain());
     }
     Ok(Flow::Next)
@@ -418,7 +419,7 @@ fn write_special(core: &mut Core, insn: Insn) -> Flow {
 
 /// "goes to PC + 4, or in a slot to the target, clearing delay and target"
 #[inline]
-fn advance(core: &mut Core) {
+pub fn advance(core: &mut Core) {
     core.pc = if core.delay { core.target } else { core.pc.wrapping_add(4) };
     core.delay = false;
     core.target = 0;
@@ -446,7 +447,7 @@ fn go_on(core: &mut Core, flow: Flow) {
 }
 
 /// Takes an exception: the paragraph "Vectors".
-fn take(core: &mut Core, exception: Exception) {
+pub fn take(core: &mut Core, exception: Exception) {
     let slot = core.delay;
     core.epcr = match exception.cause {
         Cause::Syscall => core.pc.wrapping_add(4),

@@ -1,4 +1,5 @@
-//! An OpenRISC 1000 engine written from document 01 and its sources 000 and 001 alone.
+//! An OpenRISC 1000 engine written from documents 01 and 02 and the sources 000
+//! and 001 alone.
 //!
 //! Its worth is that it shares no line with the engine it is held against.
 //! It is a plain interpreter: a table of masks and values, a struct for a

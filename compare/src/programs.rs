@@ -2,10 +2,11 @@
 //!
 //! Programs keep to some habits, so that they run for long before they end in
 //! nothing but exceptions: r1-r4 are addresses, r5-r8 hold words that are
-//! instructions, r10-r15 hold numbers at edges.
+//! instructions, r10-r15 hold numbers at edges, r16-r19 border words.
 
 use crate::isa::{self, Insn, Kind, KINDS, TABLE};
 use crate::rng::Rng;
+use crate::state::{OVE, SR_RESET};
 
 /// A word of a kind, with random fields and random reserved bits.
 pub fn word_of_kind(rng: &mut Rng, kind: Kind) -> u32 {
@@ -125,6 +126,13 @@ fn arithmetic(rng: &mut Rng) -> Insn {
     trim(insn(kind, d, a, b, rng.edge_word()))
 }
 
+/// A sum of a border word and an immediate, for the sake of the range exception.
+fn border_sum(rng: &mut Rng) -> Insn {
+    let kind = pick_kind(rng, Kind::Addi, Kind::Addic);
+    let (d, a) = (target(rng), rng.between(16, 19) as u8);
+    trim(insn(kind, d, a, 0, rng.edge_word()))
+}
+
 fn comparison(rng: &mut Rng) -> Insn {
     let kind = if rng.one_in(2) {
         pick_kind(rng, Kind::Sfeqi, Kind::Sflesi)
@@ -213,7 +221,8 @@ fn system(rng: &mut Rng) -> Insn {
 /// A word of a program.
 pub fn program_word(rng: &mut Rng) -> u32 {
     let form = match rng.below(100) {
-        0..=28 => arithmetic(rng),
+        0..=20 => arithmetic(rng),
+        21..=28 => border_sum(rng),
         29..=38 => comparison(rng),
         39..=52 => control(rng),
         53..=63 => load(rng),
@@ -236,6 +245,19 @@ pub fn counting_loop() -> [u32; 5] {
         insn(Kind::Swa, 0, 1, 5, 0),
         insn(Kind::Bnf, 0, 0, 0, 0u32.wrapping_sub(12)),
         insn(Kind::Nop, 0, 0, 0, 0),
+    ];
+    forms.map(|form| isa::encode(form.entry()) as u32)
+}
+
+/// The start of a program on cores just reset: r16 and r17 get border words and
+/// SR gets OVE, so that the sum after it may raise.
+pub fn trapping_start(rng: &mut Rng) -> [u32; 5] {
+    let forms = [
+        insn(Kind::Movhi, 16, 0, 0, 0x8000),
+        insn(Kind::Addi, 17, 16, 0, u32::MAX),
+        insn(Kind::Ori, 10, 0, 0, SR_RESET | OVE),
+        insn(Kind::Mtspr, 0, 0, 10, 17),
+        border_sum(rng),
     ];
     forms.map(|form| isa::encode(form.entry()) as u32)
 }

@@ -65,4 +65,11 @@ impl Rng {
             _ => self.next_u32(),
         }
     }
+
+    /// A word that a sixteen-bit immediate may take past the least or the
+    /// greatest signed number.
+    pub fn border_word(&mut self) -> u32 {
+        let near = 0x8000_0000u32.wrapping_add(self.edge_word() as i16 as u32);
+        self.pick(&[0x7fff_ffff, 0x8000_0000, near])
+    }
 }

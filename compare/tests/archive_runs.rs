@@ -6,6 +6,7 @@
 
 mod common;
 
+use common::sums::Sums;
 use common::{file_of, show, stop};
 use compare::battery::Pair;
 use compare::cases::{self, Case};
@@ -81,7 +82,13 @@ fn one(seed: u64) -> Range<u64> {
 
 #[test]
 fn accepted_cases() {
-    for_seeds("accepted cases", 1_000_000..1_150_000, |seed| PAIR.accepted_cases(one(seed), 600));
+    let sums: Mutex<Sums> = Mutex::default();
+    for_seeds("accepted cases", 1_000_000..1_150_000, |seed| {
+        let case = cases::accepted_case(&mut Rng::new(seed), 600);
+        sums.lock().expect("no panic").watch(&case);
+        PAIR.case(&case, 0).map_err(|text| format!("seed {seed}: {text}"))
+    });
+    sums.into_inner().expect("no panic").expect("accepted cases", 50_000);
 }
 
 /// Many short schedules: the edges of the cases themselves.

@@ -1,6 +1,7 @@
 //! What documents 000 and 001 print, with its section: layouts, and results of
 //! operations; and what an assembler makes of every kind. Asked of every
-//! engine. Where document 01 decides otherwise, its answer stands.
+//! engine. Where document 01 decides otherwise, its answer stands. For l.addi
+//! and l.addic it is 001 that counts (02, note 1).
 
 mod common;
 
@@ -63,8 +64,8 @@ const LAYOUTS: &[Layout] = &[
     layout("000 3.1.1 l.sfges", 74, "111001 01011 aaaaa bbbbb - -- ---- ----", Zero),
     layout("000 3.1.1 l.sflts", 75, "111001 01100 aaaaa bbbbb - -- ---- ----", Zero),
     layout("000 3.1.1 l.sfles", 76, "111001 01101 aaaaa bbbbb - -- ---- ----", Zero),
-    layout("000 3.1.1 l.addi", 23, "100111 ddddd aaaaa iiiii i ii iiii iiii", Sign),
-    layout("000 3.1.1 l.addic", 24, "101000 ddddd aaaaa iiiii i ii iiii iiii", Sign),
+    layout("001 5.3 l.addi", 23, "100111 ddddd aaaaa iiiii i ii iiii iiii", Sign),
+    layout("001 5.3 l.addic", 24, "101000 ddddd aaaaa iiiii i ii iiii iiii", Sign),
     layout("000 3.1.1 l.andi", 25, "101001 ddddd aaaaa iiiii i ii iiii iiii", Zero),
     layout("000 3.1.1 l.ori", 26, "101010 ddddd aaaaa iiiii i ii iiii iiii", Zero),
     layout("000 3.1.1 l.xori", 27, "101011 ddddd aaaaa iiiii i ii iiii iiii", Sign),
@@ -338,7 +339,6 @@ fn of_alu() -> Vec<Outcome> {
         two("000 3.1.1 l.srl: rB[4:0], filled with 0", Srl, 0xc000_0003, 33, 0x6000_0001),
         two("000 3.1.1 l.sra: filled with rA[31]", Sra, 0xc000_0003, 33, 0xe000_0001),
         two("000 3.1.1 l.sra: filled with rA[31]", Sra, 0x4000_0003, 1, 0x2000_0001),
-        imm("000 3.1.1 l.addi: exts(I)", Addi, 5, MINUS_1, 4),
         imm("000 3.1.1 l.andi: extz(I)", Andi, MINUS_1, 0xffff, 0xffff),
         imm("000 3.1.1 l.ori: extz(I)", Ori, 0, 0xffff, 0xffff),
         imm("000 3.1.1 l.xori: NOT by -1", Xori, 0x1234_5678, MINUS_1, 0xedcb_a987),
@@ -374,27 +374,7 @@ fn of_flags() -> Vec<Outcome> {
         flags("000 3.1.1 l.add: Overflow", add, 0x7fff_ffff, 1, CY, 1 << 31, OV),
         flags("000 3.1.1 l.addc: + SR[CY]", addc, 1, 2, CY, 4, 0),
         flags("000 3.1.1 l.addc: + SR[CY]", addc, MINUS_1, 0, CY, 0, CY),
-        flags("000 3.1.1 l.addic: + SR[CY]", with(Addic, MINUS_1), 0, 0, CY, 0, CY),
         flags("000 3.1.1 l.sub: Overflow", sub, 1 << 31, 1, CY, 0x7fff_ffff, OV),
-        // 001 5.3 has l.addi and l.addic raise; 01 follows 000.
-        flags(
-            "000 3.1.1 l.addi: no exception",
-            with(Addi, 1),
-            0x7fff_ffff,
-            0,
-            OVE,
-            1 << 31,
-            OVE | OV,
-        ),
-        flags(
-            "000 3.1.1 l.addic: no exception",
-            with(Addic, 1),
-            0x7fff_ffff,
-            0,
-            OVE,
-            1 << 31,
-            OVE | OV,
-        ),
         flags("000 3.1.1 l.cmov: SR[F] set", cmov, 7, 8, F, 7, F),
         flags("000 3.1.1 l.cmov: SR[F] not set", cmov, 7, 8, 0, 8, 0),
         compare("000 3.1.1 l.sfeq", Sfeq, 0),
@@ -412,6 +392,49 @@ fn of_flags() -> Vec<Outcome> {
         to_minus_1("000 3.1.1 l.sfltui: unsigned", Sfltui, F),
         to_minus_1("000 3.1.1 l.sfgtsi: signed", Sfgtsi, 0),
         to_minus_1("000 3.1.1 l.sfltsi: signed", Sfltsi, F),
+    ]
+}
+
+const MOST: u32 = 0x7fff_ffff;
+const LEAST: u32 = 0x8000_0000;
+
+/// 001 5.3: l.addi and l.addic, their sums and flags.
+fn of_immediate_sums() -> Vec<Outcome> {
+    let sum = |source, kind, x, imm: u32, before: u32, z, after: u32| {
+        let before = [(3, x), (SR, SR_RESET | before)];
+        let after = [(5, z), (SR, SR_RESET | after), (PC, START + 4), (ESR, SR_RESET)];
+        result(source, &[with(kind, imm)], &before, &after)
+    };
+    vec![
+        sum("001 5.3 l.addi: rA + exts(Immediate)", Addi, 5, MINUS_1, 0, 4, CY),
+        sum("001 5.3 l.addi: no SR[CY] added", Addi, 5, 1, CY, 6, 0),
+        sum("001 5.3 l.addi: SR[CY] <- carry", Addi, MINUS_1, 1, 0, 0, CY),
+        sum("001 5.3 l.addi: SR[OV] <- overflow", Addi, MOST, 1, CY, LEAST, OV),
+        sum("001 5.3 l.addi: SR[OV] <- overflow", Addi, LEAST, MINUS_1, 0, MOST, CY | OV),
+        sum("001 5.3 l.addi: SR[OVE], no overflow", Addi, MOST - 1, 1, OVE | OV, MOST, OVE),
+        sum("001 5.3 l.addic: + SR[CY]", Addic, 0, MINUS_1, CY, 0, CY),
+        sum("001 5.3 l.addic: + SR[CY]", Addic, 5, 1, CY, 7, 0),
+        sum("001 5.3 l.addic: SR[CY] <- carry", Addic, MINUS_1, 1, 0, 0, CY),
+        sum("001 5.3 l.addic: SR[OV] <- overflow", Addic, MOST, 0, CY, LEAST, OV),
+        sum("001 5.3 l.addic: SR[OV] <- overflow", Addic, LEAST, MINUS_1, 0, MOST, CY | OV),
+        sum("001 5.3 l.addic: SR[OVE], no overflow", Addic, MOST, 0, OVE | OV, MOST, OVE),
+    ]
+}
+
+/// 001 5.3: "Range Exception on overflow if SR[OVE] is set."; 000 3.3: its vector.
+fn of_range() -> Vec<Outcome> {
+    let range = |source, code, before: u32, sum| {
+        let before = [(3, MOST), (4, 1), (SR, SR_RESET | OVE | before)];
+        let (esr, sr) = ((ESR, SR_RESET | OVE | OV), (SR, SR_RESET | OV));
+        result(source, &[code], &before, &[(PC, 0xb00), (EPCR, START), (5, sum), esr, sr])
+    };
+    vec![
+        range("000 table 3.8: Range 0xB", on_registers(Add), 0, LEAST),
+        range("001 5.3 l.add: Range Exception", on_registers(Add), 0, LEAST),
+        range("001 5.3 l.addc: Range Exception", on_registers(Addc), CY, LEAST + 1),
+        range("001 5.3 l.addi: Range Exception", with(Addi, 1), CY, LEAST),
+        range("001 5.3 l.addic: Range Exception", with(Addic, 1), 0, LEAST),
+        range("001 5.3 l.addic: Range Exception, by SR[CY]", with(Addic, 0), CY, LEAST),
     ]
 }
 
@@ -537,7 +560,6 @@ fn of_exceptions() -> Vec<Outcome> {
     let own = (EPCR, START);
     // "Interrupts are disabled: SR[IEE] = 0"; SM, TEE, OVE and DSX are 01's.
     let quiet = (SR, SR_RESET | F);
-    let overflow = [(3, 0x7fff_ffff), (4, 1), (SR, SR_RESET | OVE)];
     vec![
         raise(
             "000 table 3.8: Bus Error 0x2",
@@ -559,12 +581,6 @@ fn of_exceptions() -> Vec<Outcome> {
             7,
             &[],
             &[own, quiet, (EEAR, START)],
-        ),
-        result(
-            "000 table 3.8: Range 0xB",
-            &[on_registers(Add)],
-            &overflow,
-            &[(PC, 0xb00), own, (5, 1 << 31), (ESR, SR_RESET | OVE | OV), (SR, SR_RESET | OV)],
         ),
         raise(
             "000 table 3.8: System Call 0xC; 3.1.3: EPCR <- NPC",
@@ -613,8 +629,9 @@ fn case_of(result: &Outcome) -> Case {
 
 #[test]
 fn results() {
-    let lists = [of_alu(), of_flags(), of_memory(), of_control(), of_special(), of_exceptions()];
-    let all = lists.concat();
+    let on_numbers = [of_alu(), of_flags(), of_immediate_sums(), of_range()];
+    let others = [of_memory(), of_control(), of_special(), of_exceptions()];
+    let all = [on_numbers, others].concat().concat();
     for result in &all {
         let case = case_of(result);
         for engine in engines() {

@@ -1,6 +1,9 @@
 //! Random cases: the fast run in both wordings against each other and against
 //! the plain run, and what the generators reach.
 
+mod common;
+
+use common::sums::Sums;
 use compare::battery::Pair;
 use compare::cases::{self, Case};
 use compare::check::{self, Codec, BY_CACHE, BY_HISTORY};
@@ -23,7 +26,13 @@ fn expect(verdict: Result<(), String>) {
 
 #[test]
 fn accepted_cases() {
-    expect(PAIR.accepted_cases(0..12_000, 400));
+    let mut sums = Sums::default();
+    for seed in 0..12_000 {
+        let case = cases::accepted_case(&mut Rng::new(seed), 400);
+        sums.watch(&case);
+        expect(PAIR.case(&case, 0).map_err(|text| format!("seed {seed}: {text}")));
+    }
+    sums.expect("accepted cases", 5_000);
 }
 
 #[test]

@@ -2,12 +2,15 @@
 
 mod common;
 
-use common::{asm, on_two, Bench, BYTES};
+use common::{asm, engines, on_two, Bench, BYTES};
+use compare::card;
+use compare::cases::Case;
+use compare::check;
 use compare::exec::Cause;
 use compare::isa::{self, Kind};
 use compare::rng::Rng;
-use compare::runs;
-use compare::state::{CY, DSX, F, IEE, OV, OVE, SM, TEE};
+use compare::runs::{self, Answer};
+use compare::state::{place, CY, DSX, F, IEE, OV, OVE, SM, TEE};
 
 const SR: u32 = 0x8001;
 
@@ -121,37 +124,128 @@ fn sums_and_differences() {
     }
 }
 
+/// 02, note 1: "raise range on OV with OVE".
 #[test]
-fn sums_with_immediates_never_raise() {
+fn sums_with_immediates() {
     let mut rng = Rng::new(12);
     for _ in 0..20_000 {
-        let (x, y) = (rng.edge_word(), rng.edge_word() as u16 as i16 as u32);
-        let old = rng.next_u32() & (CY | OV) | OVE;
+        let x = if rng.one_in(2) { rng.border_word() } else { rng.edge_word() };
+        let y = rng.edge_word() as u16 as i16 as u32;
+        let old = rng.next_u32() & (CY | OV | F | OVE);
         let carry = u32::from(old & CY != 0);
         for (kind, carry) in [(Kind::Addi, 0), (Kind::Addic, carry)] {
             let (bench, step) = on_two(asm(kind, 5, 3, 0, y), SR | old, x, 0);
             let core = &bench.cores[0];
-            assert_eq!(step.raised, None);
+            let (low, carried, overflow) = flags_by_bits(x, y, carry);
+            let range = overflow && old & OVE != 0;
+            let what = format!("{kind:?} {x:x} {y:x} {old:x}");
+            assert_eq!(step.raised, range.then_some(Cause::Range), "{what}");
+            assert_eq!(core.pc, if range { 0xb00 } else { 0x104 }, "{what}");
             let seen = (core.regs[5], core.has(CY), core.has(OV));
-            assert_eq!(seen, flags_by_bits(x, y, carry), "{kind:?} {x:x} {y:x} {old:x}");
+            assert_eq!(seen, (low, carried, overflow), "{what}");
+            assert_eq!(core.has(F), old & F != 0, "{what}");
         }
+    }
+}
+
+/// The five sums, each with a number that takes 7fffffff over the border.
+const OVERFLOWING: [(Kind, u32); 5] =
+    [(Kind::Add, 1), (Kind::Addc, 1), (Kind::Sub, u32::MAX), (Kind::Addi, 1), (Kind::Addic, 1)];
+
+/// rD <- r3 op y, where y is r4 or the immediate.
+fn sum_word(kind: Kind, d: u8, y: u32) -> u32 {
+    match kind {
+        Kind::Addi | Kind::Addic => asm(kind, d, 3, 0, y),
+        _ => asm(kind, d, 3, 4, 0),
     }
 }
 
 #[test]
 fn range_comes_after_the_writes() {
-    for (kind, y) in [(Kind::Add, 1), (Kind::Addc, 1), (Kind::Sub, u32::MAX)] {
-        let (bench, step) = on_two(asm(kind, 5, 3, 4, 0), SR | OVE | TEE, 0x7fff_ffff, y);
+    for (kind, y) in OVERFLOWING {
+        let word = sum_word(kind, 5, y);
+        let (bench, step) = on_two(word, SR | OVE | TEE, 0x7fff_ffff, y);
         let core = &bench.cores[0];
-        assert_eq!(step.raised, Some(Cause::Range));
+        assert_eq!(step.raised, Some(Cause::Range), "{kind:?}");
         assert_eq!(core.regs[5], 0x8000_0000);
         assert_eq!((core.pc, core.epcr, core.eear), (0xb00, 0x100, 0));
         let carried = if kind == Kind::Sub { CY } else { 0 };
         assert_eq!(core.esr, SR | OVE | TEE | OV | carried);
         assert_eq!(core.sr, SR | OV | carried);
+        // r0 drops the sum but not the exception.
+        let (bench, step) = on_two(sum_word(kind, 0, y), SR | OVE, 0x7fff_ffff, y);
+        assert_eq!((step.raised, bench.cores[0].regs[0]), (Some(Cause::Range), 0), "{kind:?}");
     }
-    let (bench, step) = on_two(asm(Kind::Add, 0, 3, 4, 0), SR | OVE, 0x7fff_ffff, 1);
-    assert_eq!((step.raised, bench.cores[0].regs[0]), (Some(Cause::Range), 0));
+}
+
+#[test]
+fn range_needs_both_overflow_and_its_enabling() {
+    for (kind, y) in OVERFLOWING {
+        let carried = if kind == Kind::Sub { CY } else { 0 };
+        let cases = [
+            (SR, 0x7fff_ffff, 0x8000_0000, SR | OV | carried),
+            // The OV of before does not count, and goes.
+            (SR | OVE | OV, 0x7fff_fffe, 0x7fff_ffff, SR | OVE | carried),
+        ];
+        for (before, x, sum, after) in cases {
+            let (bench, step) = on_two(sum_word(kind, 5, y), before, x, y);
+            let core = &bench.cores[0];
+            assert_eq!(step.raised, None, "{kind:?} {before:x}");
+            assert_eq!((core.regs[5], core.pc, core.sr, core.esr), (sum, 0x104, after, SR));
+        }
+    }
+    // The carry alone takes l.addc and l.addic over the border.
+    for kind in [Kind::Addc, Kind::Addic] {
+        for (carry, raised) in [(0, None), (CY, Some(Cause::Range))] {
+            let (_, step) = on_two(sum_word(kind, 5, 0), SR | OVE | carry, 0x7fff_ffff, 0);
+            assert_eq!(step.raised, raised, "{kind:?} {carry:x}");
+        }
+    }
+}
+
+#[test]
+fn range_in_a_slot() {
+    for (kind, y) in OVERFLOWING {
+        let mut bench = Bench::new(1);
+        let core = &mut bench.cores[0];
+        (core.regs[3], core.regs[4], core.sr, core.eear) = (0x7fff_ffff, y, SR | OVE, 0x55);
+        (core.link, core.link_address) = (true, 0x40);
+        bench.run(0, asm(Kind::J, 0, 0, 0, 0x80));
+        assert!(bench.cores[0].link && bench.cores[0].delay);
+        let step = bench.run(0, sum_word(kind, 5, y));
+        let core = &bench.cores[0];
+        assert_eq!(step.raised, Some(Cause::Range), "{kind:?}");
+        assert_eq!((core.pc, core.epcr, core.eear), (0xb00, 0x100, 0x55));
+        assert_eq!((core.regs[5], core.delay, core.target), (0x8000_0000, false, 0));
+        let carried = if kind == Kind::Sub { CY } else { 0 };
+        assert_eq!((core.esr, core.sr), (SR | OVE | OV | carried, SR | OV | DSX | carried));
+        assert_eq!((core.link, core.link_address, core.running), (false, 0, true));
+    }
+}
+
+/// A sum that raises counts as executed and as raised, one that does not as
+/// executed alone.
+#[test]
+fn counts_of_sums() {
+    for (kind, y) in OVERFLOWING {
+        for (status, raised) in [(SR | OVE, 1), (SR, 0)] {
+            let mut case = Case {
+                memory: vec![0; BYTES],
+                sheets: card::reset_sheets(1, 0x100),
+                schedule: vec![0],
+                table: vec![0; BYTES / 4],
+            };
+            case.set_word(0x100 / 4, sum_word(kind, 5, y));
+            (case.sheets[3], case.sheets[4]) = (0x7fff_ffff, y);
+            case.sheets[place::SR] = status;
+            let expected = Answer { refusal: 0, executed: 1, raised, reused: 0 };
+            for engine in engines() {
+                let both = check::after_both(engine, &case);
+                let found = [both.plain.answer, both.fast.answer];
+                assert_eq!(found, [expected; 2], "{}, {kind:?} {status:x}", engine.name());
+            }
+        }
+    }
 }
 
 /// The ten set-flag relations in the paper's order, on exact numbers.

@@ -2,6 +2,8 @@
 //! do with lines to show and with disagreements.
 #![allow(dead_code)]
 
+pub mod sums;
+
 use compare::check::{Engine, BY_CACHE, BY_HISTORY};
 use compare::exec::Step;
 use compare::isa::{self, Insn, Kind};

@@ -58,15 +58,12 @@ syscall x = outsideSlot x (faults x Syscall (x .eear))
 abbrev pub flags : Inputs → Flagged → ℕ
 flags x f = setCarryOverflow (f .carry) (f .overflow) (x .sr)
 
--- "addi and addic set the flags and never raise"
-unfoldable pub sums : Inputs → Flagged → Effect
-sums x f = advances x (x .d) (f .value) (flags x f)
-
--- "add, addc and sub with OV and SR[OVE] both 1 raise range after rD and flags are written."
+-- "add, addc and sub with OV and SR[OVE] both 1 raise range after rD and flags are written." Document 02, note 1: "From here l.addi and l.addic raise
+-- range on OV with OVE, after rD and flags are written, as l.add does."
 unfoldable pub sumsOrRaises : Inputs → Flagged → Effect
 sumsOrRaises x f =
     if isSet OVE (x .sr) && eqb (f .overflow) 1 then overflowing x (x .d) (f .value) (flags x f) else
-    sums x f
+    advances x (x .d) (f .value) (flags x f)
 
 -- ---- jumps
 

@@ -22,7 +22,8 @@ fn flags(x: Inputs, f: Flagged) -> u32
     arith::set_carry_overflow(x.sr, f.carry, f.overflow)
 }
 
-pub fn sum(x: Inputs, f: Flagged) -> Written
+// What a sum or difference writes.
+fn sum(x: Inputs, f: Flagged) -> Written
     requires { ⌜ (f .carry < 2) × (f .overflow < 2) ⌝ }
     ensures { λ r. ⌜ r ≡ summed x f ⌝ }
 {

@@ -1,7 +1,7 @@
 // What an entry does to memory and its core's own state, by group of kinds. Each group reads its inputs itself, so that nothing is read that
 // its instructions do not use.
 ghost use Prim.Native.Nat.{_≤_, _<_};
-ghost use Rattle.isa.specs.Groups.{firstImmediate, firstStore, firstCompare};
+ghost use Rattle.isa.specs.Groups.{firstAddImmediate, firstStore, firstCompare};
 ghost use Rattle.commit.specs.Inner.{OwnState};
 ghost use Rattle.exec.specs.Inner.{Performs};
 use commit::Done;
@@ -12,7 +12,7 @@ use isa::groups;
 // Jumps, exceptions and loads.
 fn low(board: Board, memory: &mut [u8], own: &mut [u32], core: usize, kind: u8, entry: u64) -> Done
     requires { ⌜ OwnState (now own) core ⌝ }
-    requires { ⌜ kind < firstImmediate ⌝ }
+    requires { ⌜ kind < firstAddImmediate ⌝ }
     ensures { λ r. ⌜ Performs board (now (memory .entry)) (now (own .entry)) core kind entry (now (memory .exit)) (now (own .exit)) r ⌝ }
 {
     if kind < groups::CONTROL {
@@ -31,6 +31,33 @@ fn low(board: Board, memory: &mut [u8], own: &mut [u32], core: usize, kind: u8, 
             let action = semantics::load(memory, kind, inputs_at(own, core, entry));
             commit::advance(memory, own, core, entry, action)
         }
+    }
+}
+
+// What is computed of a register and an immediate.
+fn immediate(
+    board: Board,
+    memory: &mut [u8],
+    own: &mut [u32],
+    core: usize,
+    kind: u8,
+    entry: u64,
+) -> Done
+    requires { ⌜ OwnState (now own) core ⌝ }
+    requires { ⌜ (firstAddImmediate ≤ kind) × (kind < firstStore) ⌝ }
+    ensures { λ r. ⌜ Performs board (now (memory .entry)) (now (own .entry)) core kind entry (now (memory .exit)) (now (own .exit)) r ⌝ }
+{
+    if kind < groups::COMPARE_IMMEDIATE {
+        if kind < groups::IMMEDIATE {
+            let action = semantics::add_immediate(kind, inputs_at(own, core, entry));
+            commit::advance(memory, own, core, entry, action)
+        } else {
+            let w = semantics::immediate(board, kind, inputs_at(own, core, entry));
+            commit::write(memory, own, core, entry, w)
+        }
+    } else {
+        let w = semantics::compare_immediate(kind, inputs_at(own, core, entry));
+        commit::write(memory, own, core, entry, w)
     }
 }
 
@@ -57,17 +84,11 @@ fn mid(board: Board, memory: &mut [u8], own: &mut [u32], core: usize, kind: u8, 
 // The kinds from the immediates on.
 fn high(board: Board, memory: &mut [u8], own: &mut [u32], core: usize, kind: u8, entry: u64) -> Done
     requires { ⌜ OwnState (now own) core ⌝ }
-    requires { ⌜ firstImmediate ≤ kind ⌝ }
+    requires { ⌜ firstAddImmediate ≤ kind ⌝ }
     ensures { λ r. ⌜ Performs board (now (memory .entry)) (now (own .entry)) core kind entry (now (memory .exit)) (now (own .exit)) r ⌝ }
 {
     if kind < groups::STORE {
-        if kind < groups::COMPARE_IMMEDIATE {
-            let w = semantics::immediate(board, kind, inputs_at(own, core, entry));
-            commit::write(memory, own, core, entry, w)
-        } else {
-            let w = semantics::compare_immediate(kind, inputs_at(own, core, entry));
-            commit::write(memory, own, core, entry, w)
-        }
+        immediate(board, memory, own, core, kind, entry)
     } else {
         if kind < groups::COMPARE {
             mid(board, memory, own, core, kind, entry)
@@ -95,7 +116,7 @@ pub fn perform(
     requires { ⌜ OwnState (now own) core ⌝ }
     ensures { λ r. ⌜ Performs board (now (memory .entry)) (now (own .entry)) core kind entry (now (memory .exit)) (now (own .exit)) r ⌝ }
 {
-    if kind < groups::IMMEDIATE {
+    if kind < groups::ADD_IMMEDIATE {
         low(board, memory, own, core, kind, entry)
     } else {
         high(board, memory, own, core, kind, entry)

@@ -14,8 +14,11 @@ firstControl = 8
 abbrev pub firstLoad : ℕ
 firstLoad = 16
 
+abbrev pub firstAddImmediate : ℕ
+firstAddImmediate = 23
+
 abbrev pub firstImmediate : ℕ
-firstImmediate = 23
+firstImmediate = 25
 
 abbrev pub firstCompareImmediate : ℕ
 firstCompareImmediate = 33
@@ -55,9 +58,13 @@ abbrev pub IsControl : ℕ → Type 0
 IsControl = Within firstControl firstLoad
 
 abbrev pub IsLoad : ℕ → Type 0
-IsLoad = Within firstLoad firstImmediate
+IsLoad = Within firstLoad firstAddImmediate
 
--- sums, logic and shifts with an immediate, and l.mfspr
+-- sums with an immediate
+abbrev pub IsAddImmediate : ℕ → Type 0
+IsAddImmediate = Within firstAddImmediate firstImmediate
+
+-- logic and shifts with an immediate, and l.mfspr
 abbrev pub IsImmediate : ℕ → Type 0
 IsImmediate = Within firstImmediate firstCompareImmediate
 

@@ -5,7 +5,9 @@ pub const CONTROL: u8 = 8;
 
 pub const LOAD: u8 = 16;
 
-pub const IMMEDIATE: u8 = 23;
+pub const ADD_IMMEDIATE: u8 = 23;
+
+pub const IMMEDIATE: u8 = 25;
 
 pub const COMPARE_IMMEDIATE: u8 = 33;
 

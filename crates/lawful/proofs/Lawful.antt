@@ -29,7 +29,7 @@ use Rattle.effect.specs.declared.types.Board.{Board}
 use Rattle.effect.specs.declared.types.Flow.{Flow}
 use Rattle.effect.specs.declared.types.Link.{Link}
 use Rattle.effect.specs.declared.types.Store.{Store}
-use Rattle.action.specs.Operations.{nop, setsFlag, syscall, flags, sums, sumsOrRaises, jump, branch, registerJump, returns, load, loadLinked, linked, store, storeConditional, touch, setsSpecialRegister}
+use Rattle.action.specs.Operations.{nop, setsFlag, syscall, flags, sumsOrRaises, jump, branch, registerJump, returns, load, loadLinked, linked, store, storeConditional, touch, setsSpecialRegister}
 use Rattle.semantics.specs.Meaning.{meaning}
 use Rattle.lawful.specs.Inner.{Status, Multiple, LawfulFlow, LawfulLink, Mode, is-halted, is-running, LawfulInputs, LawfulWord, to-register, to-epcr, to-eear, to-esr, completes, raised, Lawful}
 use Rattle.lawful.proofs.Reaches.{reaches-law}
@@ -132,16 +132,12 @@ module _ (x : Inputs) (i : LawfulInputs x) where
   flags-lawful : (f : Flagged) → Ranged f → Status (flags x f)
   flags-lawful f r = allowed-carry-overflow (x .sr) (i .sr-lawful) (f .carry) (f .overflow) (r .carry-lt) (r .overflow-lt)
 
-  pub sums-lawful : (f : Flagged) → Ranged f → Lawful (sums x f)
-  unfolding sums
-  sums-lawful f r = advances-lawful (x .d) (f .value) _ (to-register (i .register)) (flags-lawful f r)
-
-  pub raising-sums-lawful : (f : Flagged) → Ranged f → Lawful (sumsOrRaises x f)
+  pub sums-lawful : (f : Flagged) → Ranged f → Lawful (sumsOrRaises x f)
   unfolding sumsOrRaises
-  raising-sums-lawful f r =
+  sums-lawful f r =
       if-both Lawful (isSet OVE (x .sr) && eqb (f .overflow) 1)
       (raises-lawful (x .d) (f .value) _ _ _ (to-register (i .register)) (flags-lawful f r))
-      (sums-lawful f r)
+      (advances-lawful (x .d) (f .value) _ (to-register (i .register)) (flags-lawful f r))
 
   jumping-lawful : (place v to : ℕ) → place < 32 → Multiple to → Lawful (jumping x place v to)
   jumping-lawful place v to h m =
@@ -228,7 +224,6 @@ module _ (x : Inputs) (i : LawfulInputs x) where
         of-trap = faults-lawful _ _;
         of-syscall = syscall-lawful;
         of-sums = sums-lawful;
-        of-raising-sums = raising-sums-lawful;
         of-jump = λ j place v h. jump-lawful place v _ h (next-multiple (x .immediate) j);
         of-branch = branch-lawful;
         of-register-jump = register-jump-lawful;

@@ -19,7 +19,7 @@ use Rattle.effect.specs.State.{stateWords, epcrAt, eearAt, esrAt}
 use Rattle.effect.specs.Effect.{inSlot, advances, raises, faults}
 use Rattle.effect.specs.declared.types.Inputs.{Inputs}
 use Rattle.effect.specs.declared.types.Board.{Board}
-use Rattle.action.specs.Operations.{nop, setsFlag, syscall, sums, sumsOrRaises, jump, branch, registerJump, returns, load, loadLinked, storing, store, linked, storeConditional, touch, setsSpecialRegister, effectiveAddress}
+use Rattle.action.specs.Operations.{nop, setsFlag, syscall, sumsOrRaises, jump, branch, registerJump, returns, load, loadLinked, storing, store, linked, storeConditional, touch, setsSpecialRegister, effectiveAddress}
 use Rattle.semantics.specs.Meaning.{meaning}
 use Rattle.lawful.specs.Inner.{Sound, InWord, SoundStore, none, some}
 use Rattle.lawful.proofs.Reaches.{reaches-law}
@@ -102,13 +102,11 @@ module _ (len : ℕ) (x : Inputs) where
 
   -- the destination is a register
   module _ (d : x .d < 32) where
-    pub sums-sound : (f : Flagged) → Sound len (sums x f)
-    unfolding sums
-    sums-sound f = advances-sound (x .d) (f .value) _ (omega arith)
-
-    pub raising-sums-sound : (f : Flagged) → Sound len (sumsOrRaises x f)
+    pub sums-sound : (f : Flagged) → Sound len (sumsOrRaises x f)
     unfolding sumsOrRaises
-    raising-sums-sound f = if-both (Sound len) (isSet OVE (x .sr) && eqb (f .overflow) 1) (raises-sound (x .d) (f .value) _ _ _ (omega arith)) (sums-sound f)
+    sums-sound f =
+        if-both (Sound len) (isSet OVE (x .sr) && eqb (f .overflow) 1) (raises-sound (x .d) (f .value) _ _ _ (omega arith))
+        (advances-sound (x .d) (f .value) _ (omega arith))
 
     pub load-sound : (mem : List ℕ) (n : ℕ) (sign : Bool) → Sound len (load x mem n sign)
     unfolding load
@@ -132,7 +130,6 @@ sound-lines mem x d =
       of-trap = faults-sound len x _ _;
       of-syscall = syscall-sound len x;
       of-sums = λ f _. sums-sound len x d f;
-      of-raising-sums = λ f _. raising-sums-sound len x d f;
       of-jump = λ _ place v h. jump-sound len x place v _ (omega arith);
       of-branch = λ _ taken. branch-sound len x taken;
       of-register-jump = λ place v h. register-jump-sound len x place v (omega arith);

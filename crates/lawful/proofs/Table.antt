@@ -9,7 +9,7 @@ use lib.ListN.{length}
 use borrow.Author.Tests.{eqb-true}
 use Rattle.bits.specs.Word.{bitAt}
 use Rattle.bits.proofs.Cases.{if-law, if-both}
-use Rattle.isa.specs.Groups.{firstNopMovhi, firstControl, firstLoad, firstImmediate, firstCompareImmediate, firstStore, firstArithmetic, firstLogic, firstCompare, firstCache, IsBranch}
+use Rattle.isa.specs.Groups.{firstNopMovhi, firstControl, firstLoad, firstAddImmediate, firstImmediate, firstCompareImmediate, firstStore, firstArithmetic, firstLogic, firstCompare, firstCache, IsBranch}
 use Rattle.arith.specs.Status.{CY}
 use Rattle.arith.specs.declared.Flagged.{Flagged}
 use Rattle.arith.proofs.Sums.{Ranged, sum-ranged, difference-ranged}
@@ -17,8 +17,8 @@ use Rattle.memory.specs.Memory.{Width, byte-wide, half-wide, word-wide}
 use Rattle.effect.specs.declared.types.Inputs.{Inputs}
 use Rattle.effect.specs.declared.types.Board.{Board}
 use Rattle.effect.specs.declared.types.Effect.{Effect}
-use Rattle.action.specs.Operations.{writes, nothing, setsFlag, nop, illegal, trap, syscall, sums, sumsOrRaises, jump, relative, branch, registerJump, returns, load, loadLinked, store, storeConditional, touch, setsSpecialRegister}
-use Rattle.semantics.specs.Meaning.{branches, nopMovhi, control, loads, immediates, stores, arithmetic, logic, caches, meaning}
+use Rattle.action.specs.Operations.{writes, nothing, setsFlag, nop, illegal, trap, syscall, sumsOrRaises, jump, relative, branch, registerJump, returns, load, loadLinked, store, storeConditional, touch, setsSpecialRegister}
+use Rattle.semantics.specs.Meaning.{branches, nopMovhi, control, loads, addImmediates, immediates, stores, arithmetic, logic, caches, meaning}
 
 -- P holds of every effect that a line of the table may be; J is what a jump or branch by its immediate needs
 pub record Lines (P : Effect → Type 0) (J : Type 0) (mem : List ℕ) (x : Inputs) : Type 0 where
@@ -29,8 +29,7 @@ pub record Lines (P : Effect → Type 0) (J : Type 0) (mem : List ℕ) (x : Inpu
   pub of-illegal : P (illegal x)
   pub of-trap : P (trap x)
   pub of-syscall : P (syscall x)
-  pub of-sums : (f : Flagged) → Ranged f → P (sums x f)
-  pub of-raising-sums : (f : Flagged) → Ranged f → P (sumsOrRaises x f)
+  pub of-sums : (f : Flagged) → Ranged f → P (sumsOrRaises x f)
   pub of-jump : J → (place v : ℕ) → place < 32 → P (jump x place v (relative x))
   pub of-branch : J → (taken : Bool) → P (branch x taken)
   pub of-register-jump : (place v : ℕ) → place < 32 → P (registerJump x place v)
@@ -84,11 +83,16 @@ module _ (P : Effect → Type 0) (J : Type 0) (board : Board) (mem : List ℕ) (
       if-both P (eqb k 22) (l .of-load 2 true) (
       l .of-illegal)))))))
 
+  add-immediates-have : (k : ℕ) → P (addImmediates k x)
+  unfolding addImmediates
+  add-immediates-have k =
+      if-both P (eqb k 23) (l .of-sums _ (sum-ranged (x .a) (x .immediate) 0)) (
+      if-both P (eqb k 24) (l .of-sums _ (sum-ranged (x .a) (x .immediate) (bitAt CY (x .sr)))) (
+      l .of-illegal))
+
   immediates-have : (k : ℕ) → P (immediates board k x)
   unfolding immediates
   immediates-have k =
-      if-both P (eqb k 23) (l .of-sums _ (sum-ranged (x .a) (x .immediate) 0)) (
-      if-both P (eqb k 24) (l .of-sums _ (sum-ranged (x .a) (x .immediate) (bitAt CY (x .sr)))) (
       if-both P (eqb k 25) (l .of-writes _) (
       if-both P (eqb k 26) (l .of-writes _) (
       if-both P (eqb k 27) (l .of-writes _) (
@@ -97,7 +101,7 @@ module _ (P : Effect → Type 0) (J : Type 0) (board : Board) (mem : List ℕ) (
       if-both P (eqb k 30) (l .of-writes _) (
       if-both P (eqb k 31) (l .of-writes _) (
       if-both P (eqb k 32) (l .of-writes _) (
-      l .of-illegal))))))))))
+      l .of-illegal))))))))
 
   stores-have : (k : ℕ) → P (stores (length mem) k x)
   unfolding stores
@@ -112,9 +116,9 @@ module _ (P : Effect → Type 0) (J : Type 0) (board : Board) (mem : List ℕ) (
   arithmetic-have : (k : ℕ) → P (arithmetic k x)
   unfolding arithmetic
   arithmetic-have k =
-      if-both P (eqb k 48) (l .of-raising-sums _ (sum-ranged (x .a) (x .b) 0)) (
-      if-both P (eqb k 49) (l .of-raising-sums _ (sum-ranged (x .a) (x .b) (bitAt CY (x .sr)))) (
-      if-both P (eqb k 50) (l .of-raising-sums _ (difference-ranged (x .a) (x .b))) (
+      if-both P (eqb k 48) (l .of-sums _ (sum-ranged (x .a) (x .b) 0)) (
+      if-both P (eqb k 49) (l .of-sums _ (sum-ranged (x .a) (x .b) (bitAt CY (x .sr)))) (
+      if-both P (eqb k 50) (l .of-sums _ (difference-ranged (x .a) (x .b))) (
       l .of-illegal)))
 
   logic-have : (k : ℕ) → P (logic k x)
@@ -152,11 +156,12 @@ module _ (P : Effect → Type 0) (J : Type 0) (board : Board) (mem : List ℕ) (
       if-both P (ltb k firstNopMovhi) (branches-have k j) (
       if-both P (ltb k firstControl) (nop-movhi-have k) (
       if-both P (ltb k firstLoad) (control-have k) (
-      if-both P (ltb k firstImmediate) (loads-have k) (
+      if-both P (ltb k firstAddImmediate) (loads-have k) (
+      if-both P (ltb k firstImmediate) (add-immediates-have k) (
       if-both P (ltb k firstCompareImmediate) (immediates-have k) (
       if-both P (ltb k firstStore) (l .of-flag _) (
       if-both P (ltb k firstArithmetic) (stores-have k) (
       if-both P (ltb k firstLogic) (arithmetic-have k) (
       if-both P (ltb k firstCompare) (logic-have k) (
       if-both P (ltb k firstCache) (l .of-flag _) (
-      caches-have k))))))))))
+      caches-have k)))))))))))

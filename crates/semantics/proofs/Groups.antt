@@ -8,12 +8,12 @@ use lib.Dec.{T, leb, leb→le}
 use lib.ListN.{length}
 use borrow.Author.Tests.{lt-ltb, le-ltb}
 use Rattle.bits.proofs.Tests.{NoneOf, and-left, and-right}
-use Rattle.isa.specs.Groups.{firstBranch, firstNopMovhi, firstControl, firstLoad, firstImmediate, firstCompareImmediate, firstStore, firstArithmetic, firstLogic, firstCompare, firstCache, IsNopMovhi, IsControl, IsLoad, IsImmediate, IsCompareImmediate, IsStore, IsArithmetic, IsLogic, IsCompare}
+use Rattle.isa.specs.Groups.{firstBranch, firstNopMovhi, firstControl, firstLoad, firstAddImmediate, firstImmediate, firstCompareImmediate, firstStore, firstArithmetic, firstLogic, firstCompare, firstCache, IsNopMovhi, IsControl, IsLoad, IsAddImmediate, IsImmediate, IsCompareImmediate, IsStore, IsArithmetic, IsLogic, IsCompare}
 use Rattle.effect.specs.declared.types.Inputs.{Inputs}
 use Rattle.effect.specs.declared.types.Board.{Board}
 use Rattle.effect.specs.declared.types.Effect.{Effect}
 use Rattle.action.specs.Operations.{illegal}
-use Rattle.semantics.specs.Meaning.{branches, nopMovhi, control, loads, immediates, stores, arithmetic, logic, compares, caches, groups, grouped, meaning}
+use Rattle.semantics.specs.Meaning.{branches, nopMovhi, control, loads, addImmediates, immediates, stores, arithmetic, logic, compares, caches, groups, grouped, meaning}
 
 -- ---- the keys of a match on a group: n numbers from low up, in the shape that the match leaves
 
@@ -80,23 +80,26 @@ module _ (board : Board) (mem : List ℕ) (k : ℕ) (x : Inputs) where
   pub is-load : IsLoad k → loads mem k x ≡ meaning board mem k x
   is-load h = at 3 firstLoad tt (h .0) (h .1)
 
+  pub is-add-immediate : IsAddImmediate k → addImmediates k x ≡ meaning board mem k x
+  is-add-immediate h = at 4 firstAddImmediate tt (h .0) (h .1)
+
   pub is-immediate : IsImmediate k → immediates board k x ≡ meaning board mem k x
-  is-immediate h = at 4 firstImmediate tt (h .0) (h .1)
+  is-immediate h = at 5 firstImmediate tt (h .0) (h .1)
 
   pub is-compare-immediate : IsCompareImmediate k → compares (k - firstCompareImmediate) x (x .immediate) ≡ meaning board mem k x
-  is-compare-immediate h = at 5 firstCompareImmediate tt (h .0) (h .1)
+  is-compare-immediate h = at 6 firstCompareImmediate tt (h .0) (h .1)
 
   pub is-store : IsStore k → stores (length mem) k x ≡ meaning board mem k x
-  is-store h = at 6 firstStore tt (h .0) (h .1)
+  is-store h = at 7 firstStore tt (h .0) (h .1)
 
   pub is-arithmetic : IsArithmetic k → arithmetic k x ≡ meaning board mem k x
-  is-arithmetic h = at 7 firstArithmetic tt (h .0) (h .1)
+  is-arithmetic h = at 8 firstArithmetic tt (h .0) (h .1)
 
   pub is-logic : IsLogic k → logic k x ≡ meaning board mem k x
-  is-logic h = at 8 firstLogic tt (h .0) (h .1)
+  is-logic h = at 9 firstLogic tt (h .0) (h .1)
 
   pub is-compare : IsCompare k → compares (k - firstCompare) x (x .b) ≡ meaning board mem k x
-  is-compare h = at 9 firstCompare tt (h .0) (h .1)
+  is-compare h = at 10 firstCompare tt (h .0) (h .1)
 
   pub is-cache : firstCache ≤ k → caches (length mem) k x ≡ meaning board mem k x
-  is-cache h = at 10 firstCache tt h tt
+  is-cache h = at 11 firstCache tt h tt

@@ -9,7 +9,7 @@ use lib.ListN.{length}
 use Rattle.bits.specs.Choice.{if_then_else_}
 use Rattle.bits.specs.Word.{bitAt, extend}
 use Rattle.isa.specs.Entry.{kindOfEntry, fieldsOf}
-use Rattle.isa.specs.Groups.{firstNopMovhi, firstControl, firstLoad, firstImmediate, firstCompareImmediate, firstStore, firstArithmetic, firstLogic, firstCompare, firstCache}
+use Rattle.isa.specs.Groups.{firstNopMovhi, firstControl, firstLoad, firstAddImmediate, firstImmediate, firstCompareImmediate, firstStore, firstArithmetic, firstLogic, firstCompare, firstCache}
 use Rattle.arith.specs.Bit.{isSet}
 use Rattle.arith.specs.Status.{F, CY}
 use Rattle.arith.specs.Sums.{sum, difference}
@@ -19,7 +19,7 @@ use Rattle.arith.specs.Place.{least, greatest}
 use Rattle.effect.specs.declared.types.Inputs.{Inputs}
 use Rattle.effect.specs.declared.types.Board.{Board}
 use Rattle.effect.specs.declared.types.Effect.{Effect}
-use Rattle.action.specs.Operations.{writes, nothing, setsFlag, nop, illegal, trap, syscall, sums, sumsOrRaises, jump, relative, afterSlot, branch, registerJump, returns, load, loadLinked, store, storeConditional, touch, specialRegister, setsSpecialRegister}
+use Rattle.action.specs.Operations.{writes, nothing, setsFlag, nop, illegal, trap, syscall, sumsOrRaises, jump, relative, afterSlot, branch, registerJump, returns, load, loadLinked, store, storeConditional, touch, specialRegister, setsSpecialRegister}
 use Rattle.commit.specs.Commit.{inputs}
 
 -- jumps and branches by an immediate; below them kind 1, which is illegal, and no kind
@@ -63,15 +63,20 @@ loads mem k x =
     if eqb k 22 then load x mem 2 true else  -- l.lhs
     illegal x
 
+-- sums with an immediate
+unfoldable pub addImmediates : ℕ → Inputs → Effect
+addImmediates k x =
+    if eqb k 23 then sumsOrRaises x (sum (x .a) (x .immediate) 0) else  -- l.addi
+    if eqb k 24 then sumsOrRaises x (sum (x .a) (x .immediate) (bitAt CY (x .sr))) else  -- l.addic
+    illegal x
+
 -- "SPR number (decimal here): rA or K, bitwise."
 abbrev pub specialNumber : Inputs → ℕ
 specialNumber x = bitOr (x .a) (x .immediate)
 
--- sums, logic and shifts with an immediate
+-- logic and shifts with an immediate, and l.mfspr
 unfoldable pub immediates : Board → ℕ → Inputs → Effect
 immediates board k x =
-    if eqb k 23 then sums x (sum (x .a) (x .immediate) 0) else  -- l.addi
-    if eqb k 24 then sums x (sum (x .a) (x .immediate) (bitAt CY (x .sr))) else  -- l.addic
     if eqb k 25 then writes x (bitAnd (x .a) (x .immediate)) else  -- l.andi
     if eqb k 26 then writes x (bitOr (x .a) (x .immediate)) else  -- l.ori
     if eqb k 27 then writes x (bitXor (x .a) (x .immediate)) else  -- l.xori
@@ -139,7 +144,8 @@ groups board mem k x =
     (firstNopMovhi, branches k x) ∷
     (firstControl, nopMovhi k x) ∷
     (firstLoad, control k x) ∷
-    (firstImmediate, loads mem k x) ∷
+    (firstAddImmediate, loads mem k x) ∷
+    (firstImmediate, addImmediates k x) ∷
     (firstCompareImmediate, immediates board k x) ∷
     (firstStore, compares (k - firstCompareImmediate) x (x .immediate)) ∷
     (firstArithmetic, stores (length mem) k x) ∷

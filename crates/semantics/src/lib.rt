@@ -1,9 +1,9 @@
 // What each kind does, a line a kind, in the order of document 01.
 ghost use mathlib.Core.Path.{_≡_};
 ghost use Prim.Native.Nat.{_-_, _<_};
-ghost use Rattle.isa.specs.Groups.{firstNopMovhi, firstCompareImmediate, firstCompare, IsNopMovhi, IsControl, IsLoad, IsImmediate, IsCompareImmediate, IsStore, IsArithmetic, IsLogic, IsCompare};
+ghost use Rattle.isa.specs.Groups.{firstNopMovhi, firstCompareImmediate, firstCompare, IsNopMovhi, IsControl, IsLoad, IsAddImmediate, IsImmediate, IsCompareImmediate, IsStore, IsArithmetic, IsLogic, IsCompare};
 ghost use Rattle.effect.specs.Inner.{effectBy, goesOn};
-ghost use Rattle.semantics.specs.Meaning.{branches, nopMovhi, control as controlOf, loads, immediates, stores, arithmetic as arithmeticOf, logic as logicOf, compares, caches};
+ghost use Rattle.semantics.specs.Meaning.{branches, nopMovhi, control as controlOf, loads, addImmediates, immediates, stores, arithmetic as arithmeticOf, logic as logicOf, compares, caches};
 use action::accesses;
 use action::completed;
 use action::jumps;
@@ -76,14 +76,24 @@ pub fn load(mem: &[u8], kind: u8, x: Inputs) -> Action
     }
 }
 
-// Sums, logic and shifts with an immediate.
+// Sums with an immediate, which may raise range.
+pub fn add_immediate(kind: u8, x: Inputs) -> Action
+    requires { ⌜ IsAddImmediate kind ⌝ }
+    ensures { λ r. ⌜ effectBy x r ≡ addImmediates kind x ⌝ }
+{
+    match kind {
+        23 => sums::sum_or_raise(x, arith::add(x.a, x.immediate, 0)), // l.addi
+        24 => sums::sum_or_raise(x, arith::add(x.a, x.immediate, arith::carry(x.sr))), // l.addic
+        _ => raised::illegal(x), // no kind comes here
+    }
+}
+
+// Logic and shifts with an immediate, and l.mfspr.
 pub fn immediate(board: Board, kind: u8, x: Inputs) -> Written
     requires { ⌜ IsImmediate kind ⌝ }
     ensures { λ r. ⌜ goesOn x r ≡ immediates board kind x ⌝ }
 {
     match kind {
-        23 => sums::sum(x, arith::add(x.a, x.immediate, 0)), // l.addi
-        24 => sums::sum(x, arith::add(x.a, x.immediate, arith::carry(x.sr))), // l.addic
         25 => completed::write(x, arith::and(x.a, x.immediate)), // l.andi
         26 => completed::write(x, arith::or(x.a, x.immediate)), // l.ori
         27 => completed::write(x, arith::xor(x.a, x.immediate)), // l.xori

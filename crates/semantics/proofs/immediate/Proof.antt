@@ -1,25 +1,9 @@
 use Rattle.isa.specs.Groups.{firstImmediate}
-use Rattle.action.specs.Operations.{sums}
 use Rattle.semantics.specs.Meaning.{immediates}
 use borrow.Author.Needs.{needs}
 use Rattle.semantics.proofs.Groups.{all-keys}
 use Rattle.semantics.proofs.immediate.Statement.{statement}
 use Rattle.semantics.proofs.immediate.Tie as tie
-
-add-requires : tie.Need-add-requires
-add-requires c κs = search needs
-
-sum-requires : tie.Need-sum-requires
-sum-requires c κs = search needs
-
-carry-requires : tie.Need-carry-requires
-carry-requires c κs = search needs
-
-add-requires-2 : tie.Need-add-requires-2
-add-requires-2 c κs = search needs
-
-sum-requires-2 : tie.Need-sum-requires-2
-sum-requires-2 c κs = search needs
 
 and-requires : tie.Need-and-requires
 and-requires c κs = search needs
@@ -76,57 +60,44 @@ nothing-requires : tie.Need-nothing-requires
 nothing-requires c κs = search needs
 
 returns : tie.Need-returns
-unfolding immediates sums
-returns c = simp (c .sum .ensures, c .before .add .ensures .0, c .before .before .match .keys1)
+unfolding immediates
+returns c = simp (c .write .ensures, c .before .and .ensures, c .before .before .match .keys1)
 
 returns-2 : tie.Need-returns-2
-unfolding immediates sums
-returns-2 c = simp (c .sum2 .ensures, c .before .add2 .ensures .0, c .before .before .carry .ensures .0, c .before .before .before .match .keys2)
+unfolding immediates
+returns-2 c = simp (c .write2 .ensures, c .before .or .ensures, c .before .before .match .keys2)
 
 returns-3 : tie.Need-returns-3
 unfolding immediates
-returns-3 c = simp (c .write .ensures, c .before .and .ensures, c .before .before .match .keys3)
+returns-3 c = simp (c .write3 .ensures, c .before .xor .ensures, c .before .before .match .keys3)
 
 returns-4 : tie.Need-returns-4
 unfolding immediates
-returns-4 c = simp (c .write2 .ensures, c .before .or .ensures, c .before .before .match .keys4)
+returns-4 c = simp (c .write4 .ensures, c .before .read .ensures, c .before .before .or2 .ensures, c .before .before .before .match .keys4)
 
 returns-5 : tie.Need-returns-5
 unfolding immediates
-returns-5 c = simp (c .write3 .ensures, c .before .xor .ensures, c .before .before .match .keys5)
+returns-5 c = simp (c .write5 .ensures, c .before .sll .ensures, c .before .before .match .keys5)
 
 returns-6 : tie.Need-returns-6
 unfolding immediates
-returns-6 c = simp (c .write4 .ensures, c .before .read .ensures, c .before .before .or2 .ensures, c .before .before .before .match .keys6)
+returns-6 c = simp (c .write6 .ensures, c .before .srl .ensures, c .before .before .match .keys6)
 
 returns-7 : tie.Need-returns-7
 unfolding immediates
-returns-7 c = simp (c .write5 .ensures, c .before .sll .ensures, c .before .before .match .keys7)
+returns-7 c = simp (c .write7 .ensures, c .before .sra .ensures, c .before .before .match .keys7)
 
 returns-8 : tie.Need-returns-8
 unfolding immediates
-returns-8 c = simp (c .write6 .ensures, c .before .srl .ensures, c .before .before .match .keys8)
+returns-8 c = simp (c .write8 .ensures, c .before .ror .ensures, c .before .before .match .keys8)
 
 returns-9 : tie.Need-returns-9
-unfolding immediates
-returns-9 c = simp (c .write7 .ensures, c .before .sra .ensures, c .before .before .match .keys9)
-
-returns-10 : tie.Need-returns-10
-unfolding immediates
-returns-10 c = simp (c .write8 .ensures, c .before .ror .ensures, c .before .before .match .keys10)
-
-returns-11 : tie.Need-returns-11
-returns-11 c = let p = c .before .before .pre in absurd (all-keys firstImmediate 10 _ (p .0) (p .1) (c .before .match .rest))
+returns-9 c = let p = c .before .before .pre in absurd (all-keys firstImmediate 8 _ (p .0) (p .1) (c .before .match .rest))
 
 pub immediate-spec : {M : Type 1} → statement M
 immediate-spec =
     tie.close
     (tie.spec
-    add-requires
-    sum-requires
-    carry-requires
-    add-requires-2
-    sum-requires-2
     and-requires
     write-requires
     or-requires
@@ -153,6 +124,4 @@ immediate-spec =
     returns-6
     returns-7
     returns-8
-    returns-9
-    returns-10
-    returns-11)
+    returns-9)

@@ -1,7 +1,7 @@
 use mathlib.Core.Path.{sym, _∙_}
 use Rattle.effect.specs.Inner.{effectBy}
 use borrow.Author.Needs.{needs}
-use Rattle.action.specs.Operations.{sums, sumsOrRaises}
+use Rattle.action.specs.Operations.{sumsOrRaises}
 use Rattle.action.proofs.sums.sum_or_raise.Statement.{statement}
 use Rattle.action.proofs.sums.sum_or_raise.Tie as tie
 
@@ -19,7 +19,7 @@ sum-requires-2 : tie.Need-sum-requires-2
 sum-requires-2 c κs = search needs
 
 returns-2 : tie.Need-returns-2
-unfolding sumsOrRaises sums effectBy
+unfolding sumsOrRaises effectBy
 returns-2 c = simp (c .sum2 .ensures, sym (c .before .before .out-of-range .ensures) ∙ c .before .if1 .left)
 
 pub sum-or-raise-spec : {M : Type 1} → statement M

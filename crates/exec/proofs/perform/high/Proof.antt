@@ -1,54 +1,37 @@
 use mathlib.Core.Path.{_∙_}
 use native.Mathlib.Omega.{arith}
 use denote.Ref.{now}
-use Rattle.semantics.proofs.Groups.{is-immediate, is-compare-immediate, is-compare, is-cache}
+use Rattle.semantics.proofs.Groups.{is-compare, is-cache}
 use Rattle.exec.proofs.Performs.{committable, performs, writable, writes}
 use borrow.Author.Needs.{needs}
 use Rattle.exec.proofs.perform.high.Statement.{statement}
 use Rattle.exec.proofs.perform.high.Tie as tie
 
-inputs-at-requires : tie.Need-inputs-at-requires
-inputs-at-requires c κs = search needs
-
 immediate-requires : tie.Need-immediate-requires
 immediate-requires c κs = search needs
-
-write-requires : tie.Need-write-requires
-write-requires c κs = let s = c .before .before in let t = s .before .before .before .before .before .before .before in
-    writable (t .args .board) (now (t .args .memory)) _ _ _ _ (s .before .inputs-at .ensures) _ (s .immediate .ensures ∙ is-immediate _ _ _ _ (omega arith, omega arith)) (t .pre .0)
-
-inputs-at-requires-2 : tie.Need-inputs-at-requires-2
-inputs-at-requires-2 c κs = search needs
-
-compare-immediate-requires : tie.Need-compare-immediate-requires
-compare-immediate-requires c κs = search needs
-
-write-requires-2 : tie.Need-write-requires-2
-write-requires-2 c κs = let s = c .before .before in let t = s .before .before .before .before .before .before .before in
-    writable (t .args .board) (now (t .args .memory)) _ _ _ _ (s .before .inputs-at2 .ensures) _ (s .compare-immediate .ensures ∙ is-compare-immediate _ _ _ _ (omega arith, omega arith)) (t .pre .0)
 
 mid-requires : tie.Need-mid-requires
 mid-requires c κs = search needs
 
-inputs-at-requires-3 : tie.Need-inputs-at-requires-3
-inputs-at-requires-3 c κs = search needs
+inputs-at-requires : tie.Need-inputs-at-requires
+inputs-at-requires c κs = search needs
 
 compare-requires : tie.Need-compare-requires
 compare-requires c κs = search needs
 
-write-requires-3 : tie.Need-write-requires-3
-write-requires-3 c κs = let s = c .before .before in let t = s .before .before .before .before .before .before .before .before in
-    writable (t .args .board) (now (t .args .memory)) _ _ _ _ (s .before .inputs-at3 .ensures) _ (s .compare .ensures ∙ is-compare _ _ _ _ (omega arith, omega arith)) (t .pre .0)
+write-requires : tie.Need-write-requires
+write-requires c κs = let s = c .before .before in let t = s .before .before .before .before .before .before .before .before in
+    writable (t .args .board) (now (t .args .memory)) _ _ _ _ (s .before .inputs-at .ensures) _ (s .compare .ensures ∙ is-compare _ _ _ _ (omega arith, omega arith)) (t .pre .0)
 
-inputs-at-requires-4 : tie.Need-inputs-at-requires-4
-inputs-at-requires-4 c κs = search needs
+inputs-at-requires-2 : tie.Need-inputs-at-requires-2
+inputs-at-requires-2 c κs = search needs
 
 cache-requires : tie.Need-cache-requires
 cache-requires c κs = search needs
 
 advance-requires : tie.Need-advance-requires
 advance-requires c κs = let s = c .before .before in let t = s .before .before .before .before .before .before .before .before in
-    committable (t .args .board) (now (t .args .memory)) _ _ _ _ (s .before .inputs-at4 .ensures) _ (s .cache .ensures ∙ is-cache _ _ _ _ (omega arith)) (t .pre .0)
+    committable (t .args .board) (now (t .args .memory)) _ _ _ _ (s .before .inputs-at2 .ensures) _ (s .cache .ensures ∙ is-cache _ _ _ _ (omega arith)) (t .pre .0)
 
 same-length : tie.Need-same-length
 same-length c = search needs
@@ -57,8 +40,7 @@ same-length-2 : tie.Need-same-length-2
 same-length-2 c = search needs
 
 returns : tie.Need-returns
-returns c = let k = c .before .before .before .before in let s = k .before .before .before in let t = s .before .before .before .before .before .before .before in
-    writes _ _ _ _ _ _ (s .before .inputs-at .ensures) _ (s .immediate .ensures ∙ is-immediate _ _ _ _ (omega arith, omega arith)) (k .write .ensures)
+returns c = c .before .before .before .before .immediate .ensures
 
 same-length-3 : tie.Need-same-length-3
 same-length-3 c = search needs
@@ -67,8 +49,7 @@ same-length-4 : tie.Need-same-length-4
 same-length-4 c = search needs
 
 returns-2 : tie.Need-returns-2
-returns-2 c = let k = c .before .before .before .before in let s = k .before .before .before in let t = s .before .before .before .before .before .before .before in
-    writes _ _ _ _ _ _ (s .before .inputs-at2 .ensures) _ (s .compare-immediate .ensures ∙ is-compare-immediate _ _ _ _ (omega arith, omega arith)) (k .write2 .ensures)
+returns-2 c = c .before .before .before .before .mid .ensures
 
 same-length-5 : tie.Need-same-length-5
 same-length-5 c = search needs
@@ -77,7 +58,8 @@ same-length-6 : tie.Need-same-length-6
 same-length-6 c = search needs
 
 returns-3 : tie.Need-returns-3
-returns-3 c = c .before .before .before .before .mid .ensures
+returns-3 c = let k = c .before .before .before .before in let s = k .before .before .before in let t = s .before .before .before .before .before .before .before .before in
+    writes _ _ _ _ _ _ (s .before .inputs-at .ensures) _ (s .compare .ensures ∙ is-compare _ _ _ _ (omega arith, omega arith)) (k .write .ensures)
 
 same-length-7 : tie.Need-same-length-7
 same-length-7 c = search needs
@@ -87,33 +69,18 @@ same-length-8 c = search needs
 
 returns-4 : tie.Need-returns-4
 returns-4 c = let k = c .before .before .before .before in let s = k .before .before .before in let t = s .before .before .before .before .before .before .before .before in
-    writes _ _ _ _ _ _ (s .before .inputs-at3 .ensures) _ (s .compare .ensures ∙ is-compare _ _ _ _ (omega arith, omega arith)) (k .write3 .ensures)
-
-same-length-9 : tie.Need-same-length-9
-same-length-9 c = search needs
-
-same-length-10 : tie.Need-same-length-10
-same-length-10 c = search needs
-
-returns-5 : tie.Need-returns-5
-returns-5 c = let k = c .before .before .before .before in let s = k .before .before .before in let t = s .before .before .before .before .before .before .before .before in
-    performs _ _ _ _ _ _ (s .before .inputs-at4 .ensures) _ (s .cache .ensures ∙ is-cache _ _ _ _ (omega arith)) (k .advance .ensures)
+    performs _ _ _ _ _ _ (s .before .inputs-at2 .ensures) _ (s .cache .ensures ∙ is-cache _ _ _ _ (omega arith)) (k .advance .ensures)
 
 pub high-spec : {M : Type 1} → statement M
 high-spec =
     tie.close
     (tie.spec
-    inputs-at-requires
     immediate-requires
+    mid-requires
+    inputs-at-requires
+    compare-requires
     write-requires
     inputs-at-requires-2
-    compare-immediate-requires
-    write-requires-2
-    mid-requires
-    inputs-at-requires-3
-    compare-requires
-    write-requires-3
-    inputs-at-requires-4
     cache-requires
     advance-requires
     same-length
@@ -127,7 +94,4 @@ high-spec =
     returns-3
     same-length-7
     same-length-8
-    returns-4
-    same-length-9
-    same-length-10
-    returns-5)
+    returns-4)

@@ -1,0 +1,76 @@
+//! How often l.addi and l.addic meet what note 1 of document 02 tells apart.
+
+use super::show;
+use compare::cases::Case;
+use compare::exec;
+use compare::isa::{self, Kind};
+use compare::runs;
+use compare::state::{Core, OV, OVE, SHEET_WORDS};
+use std::collections::BTreeMap;
+
+/// One step of either.
+#[derive(Clone, Copy, PartialEq, Eq, PartialOrd, Ord)]
+struct Met {
+    kind: Kind,
+    /// OVE was 1.
+    enabled: bool,
+    overflow: bool,
+    raised: bool,
+    slot: bool,
+}
+
+#[derive(Default)]
+pub struct Sums(BTreeMap<Met, u32>);
+
+impl Sums {
+    /// Counts those of a case's plain run.
+    pub fn watch(&mut self, case: &Case) {
+        let mut memory = case.memory.clone();
+        let mut cores: Vec<Core> = case.sheets.chunks(SHEET_WORDS).map(Core::from_sheet).collect();
+        for &entry in &case.schedule {
+            let who = usize::from(entry);
+            if cores[who].running {
+                self.watch_step(&mut memory, &mut cores, who);
+            }
+        }
+    }
+
+    fn watch_step(&mut self, memory: &mut [u8], cores: &mut [Core], who: usize) {
+        let core = &cores[who];
+        let (enabled, slot) = (core.has(OVE), core.delay);
+        let kind = exec::fetch(memory, core.pc).map(|word| isa::decode_insn(word).kind);
+        let step = runs::plain_step(memory, cores, who);
+        if let Some(kind @ (Kind::Addi | Kind::Addic)) = kind {
+            let (overflow, raised) = (cores[who].has(OV), step.raised.is_some());
+            *self.0.entry(Met { kind, enabled, overflow, raised, slot }).or_default() += 1;
+        }
+    }
+
+    fn count(&self, of: impl Fn(&Met) -> bool) -> u32 {
+        self.0.iter().filter(|(met, _)| of(met)).map(|(_, count)| count).sum()
+    }
+
+    /// Shows the counts. Stops if one is below `least`, or below a tenth of it
+    /// in a slot: then the cases would say too little about the note.
+    pub fn expect(&self, what: &str, least: u32) {
+        for kind in [Kind::Addi, Kind::Addic] {
+            let of = |enabled: bool, overflow: bool, raised: bool| {
+                let class = move |met: &Met| (met.enabled, met.overflow, met.raised);
+                self.count(|met| met.kind == kind && class(met) == (enabled, overflow, raised))
+            };
+            let in_slot = self.count(|met| met.kind == kind && met.raised && met.slot);
+            let rows = [
+                ("OVE and overflow, raised", of(true, true, true), least),
+                ("of these in a slot", in_slot, least / 10),
+                ("OVE and no overflow, not raised", of(true, false, false), least),
+                ("overflow without OVE, not raised", of(false, true, false), least),
+            ];
+            for (class, count, least) in rows {
+                show(&format!("{what}, {kind:?}, {class}: {count}"));
+                assert!(count >= least, "{what}, {kind:?}, {class}: {count} of {least}");
+            }
+        }
+        let otherwise = self.count(|met| met.raised != (met.enabled && met.overflow));
+        assert_eq!(otherwise, 0, "{what}: raised otherwise than on OV with OVE");
+    }
+}
