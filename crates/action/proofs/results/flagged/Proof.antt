@@ -1,6 +1,6 @@
 use borrow.Author.Needs.{needs}
-use Rattle.action.proofs.sums.sum.Statement.{statement}
-use Rattle.action.proofs.sums.sum.Tie as tie
+use Rattle.action.proofs.results.flagged.Statement.{statement}
+use Rattle.action.proofs.results.flagged.Tie as tie
 
 flags-requires : tie.Need-flags-requires
 flags-requires c κs = search needs
@@ -11,5 +11,5 @@ written-requires c κs = search needs
 returns : tie.Need-returns
 returns c = simp (c .written .ensures, c .before .flags .ensures)
 
-pub sum-spec : {M : Type 1} → statement M
-sum-spec = tie.close (tie.spec flags-requires written-requires returns)
+pub flagged-spec : {M : Type 1} → statement M
+flagged-spec = tie.close (tie.spec flags-requires written-requires returns)

@@ -1,7 +1,7 @@
 use mathlib.Core.Path.{sym, _∙_}
 use borrow.Author.Needs.{needs}
-use Rattle.action.proofs.sums.out_of_range.Statement.{statement}
-use Rattle.action.proofs.sums.out_of_range.Tie as tie
+use Rattle.action.proofs.results.out_of_range.Statement.{statement}
+use Rattle.action.proofs.results.out_of_range.Tie as tie
 
 overflow-enabled-requires : tie.Need-overflow-enabled-requires
 overflow-enabled-requires c κs = search needs

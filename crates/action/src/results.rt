@@ -1,4 +1,4 @@
-// Sums and differences, with their flags.
+// Results with flags: sums, differences, products.
 ghost use mathlib.Core.Path.{_≡_};
 ghost use mathlib.Core.Bool.{_&&_};
 ghost use Prim.Native.Nat.{_<_};
@@ -6,8 +6,8 @@ ghost use lib.Dec.{eqb};
 ghost use Rattle.arith.specs.Bit.{isSet};
 ghost use Rattle.arith.specs.Status.{OVE};
 ghost use Rattle.effect.specs.Inner.{effectBy};
-ghost use Rattle.action.specs.Operations.{flags as flagsOf, sumsOrRaises};
-ghost use Rattle.action.specs.Inner.{summed};
+ghost use Rattle.action.specs.Operations.{flags as flagsOf, resultOrRaises};
+ghost use Rattle.action.specs.Inner.{writesResult};
 use crate::completed;
 use arith::Flagged;
 use effect::types::Action;
@@ -22,10 +22,10 @@ fn flags(x: Inputs, f: Flagged) -> u32
     arith::set_carry_overflow(x.sr, f.carry, f.overflow)
 }
 
-// What a sum or difference writes.
-fn sum(x: Inputs, f: Flagged) -> Written
+// What a result with its flags writes.
+fn flagged(x: Inputs, f: Flagged) -> Written
     requires { ⌜ (f .carry < 2) × (f .overflow < 2) ⌝ }
-    ensures { λ r. ⌜ r ≡ summed x f ⌝ }
+    ensures { λ r. ⌜ r ≡ writesResult x f ⌝ }
 {
     completed::written(x.d, f.value, flags(x, f))
 }
@@ -41,12 +41,12 @@ fn out_of_range(x: Inputs, f: Flagged) -> bool
     }
 }
 
-pub fn sum_or_raise(x: Inputs, f: Flagged) -> Action
+pub fn result_or_raise(x: Inputs, f: Flagged) -> Action
     requires { ⌜ (f .carry < 2) × (f .overflow < 2) ⌝ }
-    ensures { λ r. ⌜ effectBy x r ≡ sumsOrRaises x f ⌝ }
+    ensures { λ r. ⌜ effectBy x r ≡ resultOrRaises x f ⌝ }
 {
     if out_of_range(x, f) {
-        return Action::Overflow(sum(x, f));
+        return Action::RaiseRange(flagged(x, f));
     }
-    Action::Advance(sum(x, f))
+    Action::Advance(flagged(x, f))
 }
