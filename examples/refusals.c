@@ -54,7 +54,9 @@ int main(void)
     or1k_reset(states, 2);
     printf("entry 2: %" PRIu32 "\n", refusal_of_states(OR1K_STATE_WORDS));
     or1k_reset(states, 0);
-    printf("43 words: %" PRIu32 "\n", refusal_of_states(OR1K_STATE_WORDS + 1));
+    printf("42 words: %" PRIu32 "\n", refusal_of_states(42));
+    printf("43 words: %" PRIu32 "\n", refusal_of_states(43));
+    printf("45 words: %" PRIu32 "\n", refusal_of_states(OR1K_STATE_WORDS + 1));
 
     uint32_t bits = 0;
     for (uint32_t bit = 0; bit < 32; bit++) {

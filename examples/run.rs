@@ -7,7 +7,7 @@ mod or1k {
     pub const SR: usize = 35;
     pub const ESR: usize = 38;
     pub const MODE: usize = 41;
-    pub const STATE_WORDS: usize = 42;
+    pub const STATE_WORDS: usize = 44;
 
     const SR_RESET: u32 = 0x8001;
     const RUNNING: u32 = 3;

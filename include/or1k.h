@@ -1,5 +1,5 @@
 /* The engine's functions for C and C++; README.md has their declarations for Rust. Link with the archive that `rt staticlib host` writes.
- * Where a comment puts a word in brackets, document 01 has that word for the thing. */
+ * Where a comment puts a word in brackets, documents 01 and 02 have that word for the thing. */
 #ifndef OR1K_H
 #define OR1K_H
 
@@ -12,7 +12,7 @@ extern "C" {
 
 /* Words and entries.
  *
- * An entry is a decoded word: bits 63-56 kind (1 to 79), 46-42 D, 41-37 A, 36-32 B, 31-0 immediate, the rest 0. No entry is 0. */
+ * An entry is a decoded word: bits 63-56 kind (1 to 88), 46-42 D, 41-37 A, 36-32 B, 31-0 immediate, the rest 0. No entry is 0. */
 
 /* The entry that a word decodes to; every word has one. */
 uint64_t or1k_decode(uint32_t word);
@@ -44,7 +44,9 @@ enum {
     OR1K_LINK, /* 1 from l.lwa until the link is cleared, else 0 */
     OR1K_LINK_ADDRESS,
     OR1K_MODE,
-    OR1K_STATE_WORDS /* how many words a state has: 42 */
+    OR1K_MACHI, /* the accumulator of l.mac, l.maci, l.msb and l.macrc, its high word .. */
+    OR1K_MACLO, /* .. and its low one */
+    OR1K_STATE_WORDS /* how many words a state has: 44 */
 };
 
 /* The modes. A halted core's entries of the schedule do nothing. */
@@ -59,9 +61,9 @@ enum {
     OR1K_SR_TEE = 1 << 1,  /* tick timer exceptions */
     OR1K_SR_IEE = 1 << 2,  /* interrupt exceptions */
     OR1K_SR_F = 1 << 9,    /* flag */
-    OR1K_SR_CY = 1 << 10,  /* carry or borrow */
+    OR1K_SR_CY = 1 << 10,  /* carry or borrow; an unsigned product that does not fit; a division by 0 */
     OR1K_SR_OV = 1 << 11,  /* overflow */
-    OR1K_SR_OVE = 1 << 12, /* a sum or difference that overflows, with an immediate too, raises a range exception */
+    OR1K_SR_OVE = 1 << 12, /* a sum, difference or signed product that overflows, and a division by 0, raise a range exception */
     OR1K_SR_DSX = 1 << 13, /* the last exception was in a delay slot */
     OR1K_SR_FO = 1 << 15,  /* always 1 */
     OR1K_SR_RESET = OR1K_SR_FO | OR1K_SR_SM

@@ -43,7 +43,7 @@ static inline u32 add(volatile u32 *word, u32 amount)
     return value;
 }
 
-/* The processor has no multiply or divide; the compiler calls these. */
+/* Without the processor's multiply and divide the compiler calls these. */
 u32 __mulsi3(u32 a, u32 b);
 u32 __udivsi3(u32 a, u32 b);
 u32 __umodsi3(u32 a, u32 b);

@@ -151,6 +151,7 @@ fn accepted_sheet(rng: &mut Rng, bytes: u32) -> [u32; SHEET_WORDS] {
             5..=8 => programs::program_word(rng),
             10 | 11 => rng.pick(&[0x7fff_ffff, 0x8000_0000, 0xc000_0000, 0x4000_0000]),
             16..=19 => rng.border_word(),
+            20..=27 => factor(rng, number),
             _ => rng.edge_word(),
         };
     }
@@ -168,7 +169,32 @@ fn accepted_sheet(rng: &mut Rng, bytes: u32) -> [u32; SHEET_WORDS] {
         sheet[place::LINK_ADDRESS] = if rng.one_in(2) { sheet[1] } else { address(rng, bytes) };
     }
     sheet[place::MODE] = if rng.one_in(12) { 0 } else { 3 };
+    let accumulator = accumulator(rng);
+    sheet[place::MACHI] = (accumulator >> 32) as u32;
+    sheet[place::MACLO] = accumulator as u32;
     sheet
+}
+
+/// MACHI and MACLO, often near where MACLO, the sign or all of them turn over.
+fn accumulator(rng: &mut Rng) -> u64 {
+    let (high, low) = (rng.edge_word(), rng.edge_word());
+    let border = rng.pick(&[0, 1 << 32, 1 << 63, u64::MAX << 32]);
+    if rng.one_in(2) {
+        border.wrapping_add(low as i32 as u64)
+    } else {
+        u64::from(high) << 32 | u64::from(low)
+    }
+}
+
+/// What one of r20 to r27 holds: r20, r21 and r22 mostly the numbers that
+/// divisions treat apart.
+fn factor(rng: &mut Rng, number: usize) -> u32 {
+    match number {
+        20 if !rng.one_in(8) => 0x8000_0000,
+        21 if !rng.one_in(8) => 0xffff_ffff,
+        22 if !rng.one_in(8) => 0,
+        _ => rng.factor_word(),
+    }
 }
 
 /// A multiple of 4, mostly in memory, sometimes at its end or outside.
@@ -271,12 +297,14 @@ fn break_memory(rng: &mut Rng, case: &mut Case) {
 
 fn break_sheet_count(rng: &mut Rng, case: &mut Case) {
     let words = case.sheets.len();
-    let wrong = match rng.below(6) {
+    let wrong = match rng.below(8) {
         0 => 0,
         1 => 5 * SHEET_WORDS,
         2 => words - 1,
-        3 => 168 + rng.between(1, 200),
-        _ => words + rng.between(1, 41),
+        3 => 4 * SHEET_WORDS + rng.between(1, 200),
+        // Sheets as they were before note 2 of document 02.
+        4 | 5 => 42 * case.cores(),
+        _ => words + rng.between(1, SHEET_WORDS - 1),
     };
     case.sheets.resize(wrong, 0);
 }

@@ -127,6 +127,10 @@ fn operate(core: &mut Core, identity: (u32, u32), memory: &mut [u8], insn: Insn)
         Movhi | Andi | Ori | Xori | Slli | Srli | Srai | Rori => Ok(with_immediate(core, insn)),
         And | Or | Xor | Sll | Srl | Sra | Ror | Cmov => Ok(with_registers(core, insn)),
         Exths | Extbs | Exthz | Extbz | Extws | Extwz | Ff1 | Fl1 => Ok(on_one(core, insn)),
+        Mul | Muli | Mulu => product(core, insn),
+        Div | Divu => quotient(core, insn),
+        Maci | Mac | Msb => Ok(accumulate(core, insn)),
+        Macrc => Ok(move_and_clear(core, insn)),
     }
 }
 
@@ -291,7 +295,71 @@ fn sum(core: &mut Core, insn: Insn) -> Outcome {
     Ok(Flow::Next)
 }
 
-/// A word read as a signed number, wide enough for exact sums.
+/// The second factor or the divisor.
+#[inline]
+fn second(core: &Core, insn: Insn) -> u32 {
+    match insn.kind {
+        Kind::Muli | Kind::Maci => insn.imm,
+        _ => core.get(insn.b),
+    }
+}
+
+/// Products: CY is the unsigned product's, whether the kind is signed or not;
+/// OV the signed one's, and 0 for l.mulu, so that l.mulu never raises.
+#[inline]
+fn product(core: &mut Core, insn: Insn) -> Outcome {
+    let (x, y) = (core.get(insn.a), second(core, insn));
+    let wide = u64::from(x) * u64::from(y);
+    let low = wide as u32;
+    let overflow = insn.kind != Kind::Mulu && signed(x) * signed(y) != signed(low);
+    core.set(insn.d, low);
+    core.put(CY, wide >> 32 != 0);
+    core.put(OV, overflow);
+    if overflow && core.has(OVE) {
+        return Err(Cause::Range.plain());
+    }
+    Ok(Flow::Next)
+}
+
+/// "A zero divisor sets CY, keeps rD and raises range under OVE; other divisors
+/// clear CY." OV is 0 either way.
+#[inline]
+fn quotient(core: &mut Core, insn: Insn) -> Outcome {
+    let (x, y) = (core.get(insn.a), second(core, insn));
+    core.put(CY, y == 0);
+    core.put(OV, false);
+    if y != 0 {
+        // The wide quotient of 80000000 by ffffffff is 80000000 once cut.
+        let value = if insn.kind == Kind::Div { (signed(x) / signed(y)) as u32 } else { x / y };
+        core.set(insn.d, value);
+    } else if core.has(OVE) {
+        return Err(Cause::Range.plain());
+    }
+    Ok(Flow::Next)
+}
+
+/// "truncate the product to 32 bits, sign-extend it and add it to, or for msb
+/// subtract it from, MACHI and MACLO, modulo 2^64, and keep the flags"
+#[inline]
+fn accumulate(core: &mut Core, insn: Insn) -> Flow {
+    let product = core.get(insn.a).wrapping_mul(second(core, insn));
+    let term = signed(product) as u64;
+    let sum = match insn.kind {
+        Kind::Msb => core.accumulator().wrapping_sub(term),
+        _ => core.accumulator().wrapping_add(term),
+    };
+    core.set_accumulator(sum);
+    Flow::Next
+}
+
+/// "macrc moves MACLO to rD and clears both."
+fn move_and_clear(core: &mut Core, insn: Insn) -> Flow {
+    core.set(insn.d, core.maclo);
+    core.set_accumulator(0);
+    Flow::Next
+}
+
+/// A word read as a signed number, wide enough for exact sums and products.
 fn signed(word: u32) -> i64 {
     i64::from(word as i32)
 }
@@ -389,6 +457,10 @@ fn on_one(core: &mut Core, insn: Insn) -> Flow {
     Flow::Next
 }
 
+/// 02, note 2, of MACHI and MACLO: "their SPRs are 2802 and 2801 hexadecimal".
+const SPR_MACHI: u32 = 0x2802;
+const SPR_MACLO: u32 = 0x2801;
+
 /// "Others read 0".
 fn read_special(core: &mut Core, identity: (u32, u32), insn: Insn) -> Flow {
     let value = match core.get(insn.a) | insn.imm {
@@ -398,6 +470,8 @@ fn read_special(core: &mut Core, identity: (u32, u32), insn: Insn) -> Flow {
         64 => core.esr,
         128 => identity.0,
         129 => identity.1,
+        SPR_MACLO => core.maclo,
+        SPR_MACHI => core.machi,
         _ => 0,
     };
     core.set(insn.d, value);
@@ -412,6 +486,8 @@ fn write_special(core: &mut Core, insn: Insn) -> Flow {
         32 => core.epcr = value & !3,
         48 => core.eear = value,
         64 => core.esr = state::allowed_sr(value),
+        SPR_MACLO => core.maclo = value,
+        SPR_MACHI => core.machi = value,
         _ => {}
     }
     Flow::Next

@@ -20,10 +20,12 @@ pub enum Kind {
     Cmov, Ff1, Fl1,
     Sfeq, Sfne, Sfgtu, Sfgeu, Sfltu, Sfleu, Sfgts, Sfges, Sflts, Sfles,
     Cinvalidate, Cwriteback, Cflush,
+    // 02, note 2.
+    Mul, Muli, Mulu, Div, Divu, Maci, Mac, Msb, Macrc,
 }
 
-/// How many kinds there are; the last is p.cflush.
-pub const KINDS: usize = 79;
+/// How many kinds there are; the last is l.macrc.
+pub const KINDS: usize = 88;
 
 /// The encoder's answer that stands for refusal 8.
 pub const NO_WORD: u64 = 1 << 32;
@@ -98,6 +100,7 @@ const fn uses(d: bool, a: bool, b: bool, imm: Imm) -> Layout {
 const NONE: Layout = uses(false, false, false, NO_IMM);
 const JUMP: Layout = uses(false, false, false, TIMES_4);
 const K: Layout = uses(false, false, false, ZERO);
+const D: Layout = uses(true, false, false, NO_IMM);
 const D_K: Layout = uses(true, false, false, ZERO);
 const B: Layout = uses(false, false, true, NO_IMM);
 const D_A: Layout = uses(true, true, false, NO_IMM);
@@ -198,6 +201,15 @@ pub static TABLE: [Row; KINDS] = [
     row(0xfc00_1800, 0xf800_0800, Kind::Cinvalidate, A_SPLIT),
     row(0xfc00_1800, 0xf800_1000, Kind::Cwriteback,  A_SPLIT),
     row(0xfc00_1800, 0xf800_1800, Kind::Cflush,      A_SPLIT),
+    row(0xfc00_030f, 0xe000_0306, Kind::Mul,    D_A_B),
+    row(0xfc00_0000, 0xb000_0000, Kind::Muli,   D_A_I),
+    row(0xfc00_030f, 0xe000_030b, Kind::Mulu,   D_A_B),
+    row(0xfc00_030f, 0xe000_0309, Kind::Div,    D_A_B),
+    row(0xfc00_030f, 0xe000_030a, Kind::Divu,   D_A_B),
+    row(0xfc00_0000, 0x4c00_0000, Kind::Maci,   A_I),
+    row(0xfc00_000f, 0xc400_0001, Kind::Mac,    A_B),
+    row(0xfc00_000f, 0xc400_0002, Kind::Msb,    A_B),
+    row(0xfc01_0000, 0x1801_0000, Kind::Macrc,  D),
 ];
 
 /// The bits that tell the rows of an opcode apart, closed up: those under
@@ -221,9 +233,11 @@ static TRY: [[u8; KEYS]; 64] = rows_to_try();
 
 const fn keys() -> [Key; 64] {
     let mut keys = [Key { shift: 0, high: 0, low: 0 }; 64];
+    keys[0x06] = Key { shift: 16, high: 0x01, low: 0 };
     keys[0x08] = Key { shift: 23, high: 0x07, low: 0 };
     keys[0x2e] = Key { shift: 6, high: 0x03, low: 0 };
     keys[0x2f] = Key { shift: 21, high: 0x1f, low: 0 };
+    keys[0x31] = Key { shift: 0, high: 0, low: 0x0f };
     keys[0x38] = Key { shift: 2, high: 0xf0, low: 0x0f };
     keys[0x39] = Key { shift: 21, high: 0x1f, low: 0 };
     keys[0x3e] = Key { shift: 11, high: 0x03, low: 0 };

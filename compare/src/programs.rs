@@ -2,11 +2,16 @@
 //!
 //! Programs keep to some habits, so that they run for long before they end in
 //! nothing but exceptions: r1-r4 are addresses, r5-r8 hold words that are
-//! instructions, r10-r15 hold numbers at edges, r16-r19 border words.
+//! instructions, r10-r15 hold numbers at edges, r16-r19 border words, r20-r27
+//! factors: r20 as a rule 80000000, r21 ffffffff and r22 0.
 
 use crate::isa::{self, Insn, Kind, KINDS, TABLE};
 use crate::rng::Rng;
 use crate::state::{OVE, SR_RESET};
+
+/// The special registers there are, MACLO and MACHI three times each.
+const SPECIAL: [u32; 12] =
+    [17, 32, 48, 64, 128, 129, 0x2801, 0x2801, 0x2801, 0x2802, 0x2802, 0x2802];
 
 /// A word of a kind, with random fields and random reserved bits.
 pub fn word_of_kind(rng: &mut Rng, kind: Kind) -> u32 {
@@ -19,7 +24,7 @@ pub fn word_of_kind(rng: &mut Rng, kind: Kind) -> u32 {
     row.value | free & !row.mask
 }
 
-/// A word mostly of a kind taken from all 79 alike, else just random.
+/// A word mostly of a kind taken from all 88 alike, else just random.
 pub fn any_word(rng: &mut Rng) -> u32 {
     if rng.one_in(12) {
         return rng.next_u32();
@@ -133,6 +138,57 @@ fn border_sum(rng: &mut Rng) -> Insn {
     trim(insn(kind, d, a, 0, rng.edge_word()))
 }
 
+/// A register that holds a factor, as a rule.
+fn factor(rng: &mut Rng) -> u8 {
+    if rng.one_in(16) {
+        rng.below(32) as u8
+    } else {
+        rng.between(20, 27) as u8
+    }
+}
+
+/// Products, quotients and what works on MACHI and MACLO, mostly on factors.
+fn product(rng: &mut Rng) -> Insn {
+    let kind = match rng.below(26) {
+        0..=3 => Kind::Mul,
+        4..=8 => Kind::Muli,
+        9 | 10 => Kind::Mulu,
+        11..=17 => return quotient(rng),
+        18 | 19 => Kind::Mac,
+        20 | 21 => Kind::Msb,
+        22 | 23 => Kind::Maci,
+        _ => Kind::Macrc,
+    };
+    let d = result(rng, if kind == Kind::Macrc { 3 } else { 12 });
+    let imm = match rng.below(3) {
+        0 => rng.factor_word(),
+        1 => rng.pick(&[2, 3, 0x7fff, 0xffff_8000]),
+        _ => rng.next_u32(),
+    };
+    trim(insn(kind, d, factor(rng), factor(rng), imm))
+}
+
+/// A register to write, once in so many times surely r0.
+fn result(rng: &mut Rng, times: usize) -> u8 {
+    if rng.one_in(times) {
+        0
+    } else {
+        target(rng)
+    }
+}
+
+/// A division: by 0 and of 80000000 by ffffffff more often than dice would.
+fn quotient(rng: &mut Rng) -> Insn {
+    let kind = rng.pick(&[Kind::Div, Kind::Divu]);
+    let (kind, a, b) = match rng.below(8) {
+        0 | 1 => (kind, factor(rng), 0),
+        2 => (kind, factor(rng), 22),
+        3 => (rng.pick(&[Kind::Div, Kind::Div, Kind::Divu]), 20, 21),
+        _ => (kind, factor(rng), factor(rng)),
+    };
+    insn(kind, result(rng, 12), a, b, 0)
+}
+
 fn comparison(rng: &mut Rng) -> Insn {
     let kind = if rng.one_in(2) {
         pick_kind(rng, Kind::Sfeqi, Kind::Sflesi)
@@ -191,7 +247,8 @@ fn special(rng: &mut Rng) -> Insn {
     let number = match rng.below(12) {
         0 => rng.next_u32() & 0xffff,
         1 => rng.below(200) as u32,
-        _ => rng.pick(&[17, 32, 48, 64, 128, 129]),
+        2 => rng.pick(&[0x2800, 0x2803]),
+        _ => rng.pick(&SPECIAL),
     };
     let base = if rng.one_in(10) { source(rng) } else { 0 };
     if rng.one_in(2) {
@@ -221,15 +278,16 @@ fn system(rng: &mut Rng) -> Insn {
 /// A word of a program.
 pub fn program_word(rng: &mut Rng) -> u32 {
     let form = match rng.below(100) {
-        0..=20 => arithmetic(rng),
-        21..=28 => border_sum(rng),
-        29..=38 => comparison(rng),
-        39..=52 => control(rng),
-        53..=63 => load(rng),
-        64..=77 => store(rng),
-        78..=85 => atomic(rng),
-        86..=90 => special(rng),
-        91..=95 => quiet(rng),
+        0..=13 => arithmetic(rng),
+        14..=21 => border_sum(rng),
+        22..=39 => product(rng),
+        40..=46 => comparison(rng),
+        47..=59 => control(rng),
+        60..=67 => load(rng),
+        68..=78 => store(rng),
+        79..=85 => atomic(rng),
+        86..=91 => special(rng),
+        92..=95 => quiet(rng),
         96..=97 => system(rng),
         _ => return any_word(rng),
     };
@@ -249,15 +307,21 @@ pub fn counting_loop() -> [u32; 5] {
     forms.map(|form| isa::encode(form.entry()) as u32)
 }
 
-/// The start of a program on cores just reset: r16 and r17 get border words and
-/// SR gets OVE, so that the sum after it may raise.
-pub fn trapping_start(rng: &mut Rng) -> [u32; 5] {
+/// The start of a program on cores just reset: r16 and r17 get border words,
+/// r20 to r23 factors and SR gets OVE, so that the sum and the products after
+/// it may raise.
+pub fn trapping_start(rng: &mut Rng) -> [u32; 10] {
     let forms = [
         insn(Kind::Movhi, 16, 0, 0, 0x8000),
         insn(Kind::Addi, 17, 16, 0, u32::MAX),
+        insn(Kind::Movhi, 20, 0, 0, 0x8000),
+        insn(Kind::Xori, 21, 0, 0, u32::MAX),
+        insn(Kind::Ori, 23, 0, 0, 0xb505),
         insn(Kind::Ori, 10, 0, 0, SR_RESET | OVE),
         insn(Kind::Mtspr, 0, 0, 10, 17),
+        product(rng),
         border_sum(rng),
+        product(rng),
     ];
     forms.map(|form| isa::encode(form.entry()) as u32)
 }

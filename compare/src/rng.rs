@@ -72,4 +72,29 @@ impl Rng {
         let near = 0x8000_0000u32.wrapping_add(self.edge_word() as i16 as u32);
         self.pick(&[0x7fff_ffff, 0x8000_0000, near])
     }
+
+    /// A factor or divisor, often one at which signed and unsigned products and
+    /// quotients part. b504 is the greatest number whose square fits.
+    pub fn factor_word(&mut self) -> u32 {
+        const EDGES: [u32; 13] = [
+            0,
+            1,
+            0xffff_ffff,
+            0x8000_0000,
+            0x7fff_ffff,
+            0x8000,
+            0xffff_8000,
+            0x7fff,
+            0x1_0000,
+            0x1_8000,
+            0xffff_0000,
+            0xb504,
+            0xb505,
+        ];
+        match self.below(6) {
+            0 => self.next_u32(),
+            1 => (self.below(200) as u32).wrapping_sub(100),
+            _ => self.pick(&EDGES),
+        }
+    }
 }

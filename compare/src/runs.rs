@@ -49,7 +49,7 @@ impl Answer {
     }
 }
 
-/// The number of cores, if the sheets are 42 words for each of 1 to 4.
+/// The number of cores, if the sheets are 44 words for each of 1 to 4.
 pub fn core_count(sheets: &[u32]) -> Option<usize> {
     let cores = sheets.len() / SHEET_WORDS;
     let whole = sheets.len().is_multiple_of(SHEET_WORDS);

@@ -1,7 +1,7 @@
-//! One core, and the sheet of 42 words it is lent on ("Sheets").
+//! One core, and the sheet of 44 words it is lent on ("Sheets"; 02, note 2).
 
 /// Words on one core's sheet.
-pub const SHEET_WORDS: usize = 42;
+pub const SHEET_WORDS: usize = 44;
 
 /// Bits of SR and ESR.
 pub const SM: u32 = 1 << 0;
@@ -34,6 +34,9 @@ pub mod place {
     pub const LINK: usize = 39;
     pub const LINK_ADDRESS: usize = 40;
     pub const MODE: usize = 41;
+    // 02, note 2: "MACHI then MACLO last".
+    pub const MACHI: usize = 42;
+    pub const MACLO: usize = 43;
 }
 
 /// One core while it runs.
@@ -50,6 +53,8 @@ pub struct Core {
     pub link: bool,
     pub link_address: u32,
     pub running: bool,
+    pub machi: u32,
+    pub maclo: u32,
 }
 
 impl Core {
@@ -74,6 +79,8 @@ impl Core {
             link: sheet[place::LINK] == 1,
             link_address: sheet[place::LINK_ADDRESS],
             running: sheet[place::MODE] == RUNNING,
+            machi: sheet[place::MACHI],
+            maclo: sheet[place::MACLO],
         }
     }
 
@@ -90,6 +97,8 @@ impl Core {
         sheet[place::LINK] = u32::from(self.link);
         sheet[place::LINK_ADDRESS] = self.link_address;
         sheet[place::MODE] = if self.running { RUNNING } else { 0 };
+        sheet[place::MACHI] = self.machi;
+        sheet[place::MACLO] = self.maclo;
     }
 
     /// A register's value.
@@ -117,6 +126,17 @@ impl Core {
         self.sr = if on { self.sr | bit } else { self.sr & !bit };
     }
 
+    /// MACHI and MACLO as one number, MACHI above.
+    #[inline]
+    pub fn accumulator(&self) -> u64 {
+        u64::from(self.machi) << 32 | u64::from(self.maclo)
+    }
+
+    #[inline]
+    pub fn set_accumulator(&mut self, number: u64) {
+        (self.machi, self.maclo) = ((number >> 32) as u32, number as u32);
+    }
+
     /// "A cleared link has link address 0."
     #[inline]
     pub fn clear_link(&mut self) {
@@ -130,7 +150,8 @@ pub fn allowed_sr(value: u32) -> u32 {
     value & SR_BITS | FIXED_ONE
 }
 
-/// Whether a sheet of 42 words keeps every rule of "Sheets".
+/// Whether a sheet of 44 words keeps every rule of "Sheets"; MACHI and MACLO
+/// may be anything.
 pub fn sheet_is_good(sheet: &[u32]) -> bool {
     let aligned = [place::PC, place::TARGET, place::EPCR, place::LINK_ADDRESS];
     let status = [place::SR, place::ESR];

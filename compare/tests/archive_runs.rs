@@ -6,7 +6,7 @@
 
 mod common;
 
-use common::sums::Sums;
+use common::watch::Counts;
 use common::{file_of, show, stop};
 use compare::battery::Pair;
 use compare::cases::{self, Case};
@@ -82,13 +82,13 @@ fn one(seed: u64) -> Range<u64> {
 
 #[test]
 fn accepted_cases() {
-    let sums: Mutex<Sums> = Mutex::default();
+    let counts: Mutex<Counts> = Mutex::default();
     for_seeds("accepted cases", 1_000_000..1_150_000, |seed| {
         let case = cases::accepted_case(&mut Rng::new(seed), 600);
-        sums.lock().expect("no panic").watch(&case);
+        counts.lock().expect("no panic").watch(&case);
         PAIR.case(&case, 0).map_err(|text| format!("seed {seed}: {text}"))
     });
-    sums.into_inner().expect("no panic").expect("accepted cases", 50_000);
+    counts.into_inner().expect("no panic").expect("accepted cases", [50_000; 2]);
 }
 
 /// Many short schedules: the edges of the cases themselves.
@@ -198,7 +198,7 @@ fn the_greatest_counts() {
 #[test]
 fn any_lengths() {
     let memories = [0, 1, 3, 4, 4_092, 4_096, 4_097, 1_048_576, 1_048_580];
-    let sheets = [0, 1, 41, 42, 43, 84, 168, 169, 210, 4_200];
+    let sheets = [0, 1, 42, 43, 44, 45, 88, 168, 176, 177, 220, 4_400];
     let schedules = [0, 1, 65_536, 65_537];
     let tables = [0, 1, 1_023, 1_024, 1_025, 262_144];
     for memory in memories {

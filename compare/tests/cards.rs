@@ -48,6 +48,18 @@ fn several_cores_are_printed_in_turn() {
     assert_eq!(card::output(card.as_bytes()), output);
 }
 
+/// 02, note 2: r4 is 7 times -3 and r5 that by -3; MACLO, which is then 3f, is
+/// no register and is not printed.
+#[test]
+fn products_on_a_card() {
+    let card = "cores=1\nmemory=4096\nentry=00000000\nsteps=5\nschedule=0\nwords=5\n\
+        w=9c60fffd\nw=b0830007\nw=c4032001\nw=e0a41b09\nw=15000001\n";
+    let output = "executed=5\nraised=0\nreused=0\n\
+        core=0 mode=0 pc=00000014 delay=0 sr=00008001\n\
+        r3=fffffffd\nr4=ffffffeb\nr5=00000007\nend\n";
+    assert_eq!(card::output(card.as_bytes()), output);
+}
+
 #[test]
 fn form_faults() {
     let lines = [

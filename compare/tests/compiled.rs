@@ -6,7 +6,7 @@
 
 mod common;
 
-use common::{engines, show, stop};
+use common::{engines, registration, show, stop, Xorshift};
 use compare::cases::Case;
 use compare::check;
 use compare::image::{self, Image};
@@ -40,7 +40,7 @@ const fn program(name: &'static str, check: fn(&Ran)) -> Program {
 
 const ANY: [usize; 4] = [1, 2, 3, 4];
 
-const PROGRAMS: [Program; 10] = [
+const PROGRAMS: [Program; 11] = [
     program("sieve", sieve),
     program("crc32", crc32),
     program("sort", sort),
@@ -53,6 +53,8 @@ const PROGRAMS: [Program; 10] = [
     Program { cores: &ANY, ..program("cores", cores) },
     // One word for each lamp but the first.
     Program { cores: &ANY, refilled: 29, ..program("patch", patch) },
+    // Two zero divisors and a product, with overflow traps.
+    Program { raised: 3, ..program("products", products) },
 ];
 
 /// Each program is there twice: by the least instructions, and by all.
@@ -239,18 +241,32 @@ fn kinds_in_the_code() {
     }
     let count = kinds.len();
     show(&format!("the stored programs have {count} kinds: {kinds:?}"));
-    assert!(count >= 55, "only {count} kinds");
+    assert!(count >= 63, "only {count} kinds");
+    let of_note_2 = kinds.iter().filter(|kind| **kind >= Kind::Mul).count();
+    assert_eq!(of_note_2, 9, "every kind of note 2 of document 02");
 }
 
-/// The programs' generator: Marsaglia's xorshift32.
-struct Xorshift(u32);
+const NATIVE_COMPILER: &str = "cc";
 
-impl Xorshift {
-    fn next(&mut self) -> u32 {
-        self.0 ^= self.0 << 13;
-        self.0 ^= self.0 >> 17;
-        self.0 ^= self.0 << 5;
-        self.0
+/// The same source as this computer's own compiler and processor have it.
+#[test]
+fn products_by_native_c() {
+    if Command::new(NATIVE_COMPILER).arg("--version").output().is_err() {
+        return show(&format!("products by native C: skipped, no {NATIVE_COMPILER}"));
+    }
+    let source = image::folder().join("products.c");
+    for level in ["-O0", "-O2"] {
+        let program = Path::new(env!("CARGO_TARGET_TMPDIR")).join(format!("products{level}"));
+        let mut compile = Command::new(NATIVE_COMPILER);
+        compile.args(["-std=gnu11", "-Wall", level, "-o"]).arg(&program).arg(&source);
+        let made = compile.output().expect("the compiler runs");
+        assert!(made.status.success(), "{}", String::from_utf8_lossy(&made.stderr));
+        let printed = Command::new(&program).output().expect("the program runs");
+        let text = String::from_utf8(printed.stdout).expect("text");
+        let word = |line: &str| u32::from_str_radix(line, 16).expect("a word");
+        let words: Vec<u32> = text.lines().map(word).collect();
+        assert_eq!(words, registration::results(), "{level}");
+        show(&format!("products by native C, {level}: {} words as worked out", words.len()));
     }
 }
 
@@ -401,4 +417,13 @@ fn patch(ran: &Ran) {
         assert_eq!(ran.word(4 * core), sum << core);
         assert_eq!(ran.result(core), sum << core);
     }
+}
+
+fn products(ran: &Ran) {
+    let results = registration::results();
+    assert_eq!(ran.words(0, results.len()), results);
+    let board = registration::BOARD;
+    assert_eq!(ran.words(4 * results.len(), board.len()), board);
+    let best = results.len() - 5;
+    assert_eq!(ran.result(0), results[best]);
 }

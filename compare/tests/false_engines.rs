@@ -1,14 +1,14 @@
 //! Engines that are wrong in ways documents 01 and 02 name: the battery must
 //! stop each, with a message from which the case can be run again.
 
+mod common;
+
+use common::wrong_step::{assert_passed, assert_stopped, wrong, WrongStep};
 use compare::battery::{self, Pair};
 use compare::card;
 use compare::check::{Codec, Engine, BY_CACHE, BY_HISTORY};
-use compare::dump;
-use compare::exec::{self, Cause, Exception};
-use compare::isa::{self, Insn, Kind};
-use compare::runs::{self, Answer};
-use compare::state::{place, Core, OV, OVE, SHEET_WORDS};
+use compare::isa::Kind;
+use compare::state::{place, OV, OVE, SHEET_WORDS};
 
 type Plain = fn(&mut [u8], &mut [u32], &[u8]) -> u64;
 type Fast = fn(&mut [u8], &mut [u32], &[u8], &mut [u64]) -> u64;
@@ -64,7 +64,30 @@ fn halt_early(sheets: &mut [u32], before: &[u32]) {
     }
 }
 
-const WRONG_RUNS: [False; 7] = [
+/// Exchanges MACHI and MACLO on every whole sheet.
+fn exchange(sheets: &mut [u32]) {
+    for sheet in sheets.chunks_exact_mut(SHEET_WORDS) {
+        sheet.swap(place::MACHI, place::MACLO);
+    }
+}
+
+const WRONG_RUNS: [False; 8] = [
+    False {
+        name: "has MACLO before MACHI on a sheet",
+        plain: |memory, sheets, schedule| {
+            exchange(sheets);
+            let answer = BY_CACHE.plain_run(memory, sheets, schedule);
+            exchange(sheets);
+            answer
+        },
+        fast: |memory, sheets, schedule, table| {
+            exchange(sheets);
+            let answer = BY_CACHE.fast_run(memory, sheets, schedule, table);
+            exchange(sheets);
+            answer
+        },
+        ..TRUE
+    },
     False {
         name: "never fills the table",
         fast: |memory, sheets, schedule, table| {
@@ -129,183 +152,45 @@ const WRONG_RUNS: [False; 7] = [
     },
 ];
 
-/// The battery stops the engine, and the dumped case does so again.
-fn assert_stopped(engine: &dyn Engine) {
-    let pair = Pair { one: &BY_HISTORY, other: engine };
-    let text = pair.accepted_cases(0..300, 200).expect_err(engine.name());
-    assert!(text.starts_with("seed "), "{text}");
-    let case = dump::read_case(&text).expect("a case that can be run again");
-    assert!(pair.case(&case, 0).is_err(), "{}: the case from its dump", engine.name());
-}
-
 #[test]
 fn wrong_runs_are_stopped() {
     for engine in &WRONG_RUNS {
         assert_stopped(engine);
     }
-    let pair = Pair { one: &BY_HISTORY, other: &TRUE };
-    assert_eq!(pair.accepted_cases(0..300, 200), Ok(()));
+    assert_passed(&TRUE);
 }
 
-/// One l.addi or l.addic as this engine takes it, for another to spoil.
-struct Taken {
-    insn: Insn,
-    before: Core,
-    after: Core,
-    raised: bool,
-}
+const SUMS: &[Kind] = &[Kind::Addi, Kind::Addic];
 
-impl Taken {
-    /// Ends it another way, after rD and flags are written.
-    fn end(&mut self, raised: bool) {
-        let sr = if self.raised { self.after.esr } else { self.after.sr };
-        let mut core = Core { regs: self.after.regs, sr, ..self.before };
-        if raised {
-            exec::take(&mut core, Exception { cause: Cause::Range, failing: None });
-        } else {
-            exec::advance(&mut core);
-        }
-        (self.after, self.raised) = (core, raised);
-    }
-
-    /// Spoils what it left, given what was there before, if it raised.
-    fn if_raised(&mut self, spoil: fn(&mut Core, &Core)) {
-        if self.raised {
-            spoil(&mut self.after, &self.before);
-        }
-    }
-}
-
-/// An engine that is wrong in immediate sums alone; it is asked accepted cases.
-struct WrongSum {
-    name: &'static str,
-    spoil: fn(&mut Taken),
-}
-
-impl WrongSum {
-    /// One entry: whether it raised and whether it counts as reused.
-    fn step(
-        &self,
-        memory: &mut [u8],
-        cores: &mut [Core],
-        who: usize,
-        table: Option<&mut [u64]>,
-    ) -> (bool, bool) {
-        let before = cores[who];
-        let word = exec::fetch(memory, before.pc);
-        let (step, reused) = match table {
-            None => (runs::plain_step(memory, cores, who), false),
-            Some(table) => runs::fast_step(memory, cores, who, table),
-        };
-        let raised = step.raised.is_some();
-        match word.map(isa::decode_insn) {
-            Some(insn) if matches!(insn.kind, Kind::Addi | Kind::Addic) => {
-                let mut taken = Taken { insn, before, after: cores[who], raised };
-                (self.spoil)(&mut taken);
-                cores[who] = taken.after;
-                (taken.raised, reused)
-            }
-            _ => (raised, reused),
-        }
-    }
-
-    /// The fast run, or without a table the plain one.
-    fn run(
-        &self,
-        memory: &mut [u8],
-        sheets: &mut [u32],
-        schedule: &[u8],
-        mut table: Option<&mut [u64]>,
-    ) -> u64 {
-        let mut answer = Answer::default();
-        let mut cores: Vec<Core> = sheets.chunks(SHEET_WORDS).map(Core::from_sheet).collect();
-        for who in schedule.iter().map(|&entry| usize::from(entry)) {
-            if cores[who].running {
-                let (raised, reused) = self.step(memory, &mut cores, who, table.as_deref_mut());
-                answer.executed += 1;
-                answer.raised += u32::from(raised);
-                answer.reused += u32::from(reused);
-            }
-        }
-        for (core, sheet) in cores.iter().zip(sheets.chunks_mut(SHEET_WORDS)) {
-            core.to_sheet(sheet);
-        }
-        answer.pack()
-    }
-}
-
-impl Codec for WrongSum {
-    fn name(&self) -> &str {
-        self.name
-    }
-    fn decode(&self, word: u32) -> u64 {
-        BY_CACHE.decode(word)
-    }
-    fn encode(&self, entry: u64) -> u64 {
-        BY_CACHE.encode(entry)
-    }
-}
-
-impl Engine for WrongSum {
-    fn plain_run(&self, memory: &mut [u8], sheets: &mut [u32], schedule: &[u8]) -> u64 {
-        self.run(memory, sheets, schedule, None)
-    }
-    fn fast_run(
-        &self,
-        memory: &mut [u8],
-        sheets: &mut [u32],
-        schedule: &[u8],
-        table: &mut [u64],
-    ) -> u64 {
-        self.run(memory, sheets, schedule, Some(table))
-    }
-}
-
-/// An engine that is right as yet.
-const TRUE_SUM: WrongSum = WrongSum { name: "true", spoil: |taken| taken.end(taken.raised) };
-
-const WRONG_SUMS: [WrongSum; 10] = [
-    WrongSum {
-        name: "l.addi never raises",
-        spoil: |taken| taken.end(taken.raised && taken.insn.kind != Kind::Addi),
-    },
-    WrongSum {
-        name: "l.addic never raises",
-        spoil: |taken| taken.end(taken.raised && taken.insn.kind != Kind::Addic),
-    },
-    WrongSum {
-        name: "does not raise for r0",
-        spoil: |taken| taken.end(taken.raised && taken.insn.d != 0),
-    },
-    WrongSum { name: "raises without OVE", spoil: |taken| taken.end(taken.after.has(OV)) },
-    WrongSum {
-        name: "raises by the OV there was",
-        spoil: |taken| taken.end(taken.before.has(OV) && taken.before.has(OVE)),
-    },
-    WrongSum {
-        name: "raises before rD is written",
-        spoil: |taken| taken.if_raised(|after, before| after.regs = before.regs),
-    },
-    WrongSum {
-        name: "ESR has the old flags",
-        spoil: |taken| taken.if_raised(|after, before| after.esr = before.sr),
-    },
-    WrongSum {
-        name: "EPCR is its own address in a slot",
-        spoil: |taken| taken.if_raised(|after, before| after.epcr = before.pc),
-    },
-    WrongSum {
-        name: "EEAR is its own address",
-        spoil: |taken| taken.if_raised(|after, before| after.eear = before.pc),
-    },
-    WrongSum {
-        name: "keeps the link",
-        spoil: |taken| {
-            taken.if_raised(|after, before| {
-                (after.link, after.link_address) = (before.link, before.link_address);
-            })
-        },
-    },
+const WRONG_SUMS: [WrongStep; 10] = [
+    wrong("l.addi never raises", SUMS, |taken| {
+        taken.end(taken.raised && taken.insn.kind != Kind::Addi)
+    }),
+    wrong("l.addic never raises", SUMS, |taken| {
+        taken.end(taken.raised && taken.insn.kind != Kind::Addic)
+    }),
+    wrong("does not raise for r0", SUMS, |taken| taken.end(taken.raised && taken.insn.d != 0)),
+    wrong("raises without OVE", SUMS, |taken| taken.end(taken.after.has(OV))),
+    wrong("raises by the OV there was", SUMS, |taken| {
+        taken.end(taken.before.has(OV) && taken.before.has(OVE))
+    }),
+    wrong("raises before rD is written", SUMS, |taken| {
+        taken.if_raised(|after, before| after.regs = before.regs)
+    }),
+    wrong("ESR has the old flags", SUMS, |taken| {
+        taken.if_raised(|after, before| after.esr = before.sr)
+    }),
+    wrong("EPCR is its own address in a slot", SUMS, |taken| {
+        taken.if_raised(|after, before| after.epcr = before.pc)
+    }),
+    wrong("EEAR is its own address", SUMS, |taken| {
+        taken.if_raised(|after, before| after.eear = before.pc)
+    }),
+    wrong("keeps the link", SUMS, |taken| {
+        taken.if_raised(|after, before| {
+            (after.link, after.link_address) = (before.link, before.link_address);
+        })
+    }),
 ];
 
 /// 02, note 1: "raise range on OV with OVE, after rD and flags are written".
@@ -314,9 +199,8 @@ fn wrong_immediate_sums_are_stopped() {
     for engine in &WRONG_SUMS {
         assert_stopped(engine);
     }
-    let pair = Pair { one: &BY_HISTORY, other: &TRUE_SUM };
-    assert_eq!(pair.accepted_cases(0..300, 200), Ok(()));
-    assert_eq!(pair.good_cards(0..300), Ok(()));
+    // An engine that is right as yet.
+    assert_passed(&wrong("true", SUMS, |taken| taken.end(taken.raised)));
     // Cards too have sums that raise.
     for engine in &WRONG_SUMS[..2] {
         let pair = Pair { one: &BY_HISTORY, other: engine };
@@ -341,6 +225,45 @@ fn a_run_that_writes_before_it_refuses_is_stopped() {
     assert!(pair.broken_cases(0..300).is_err());
 }
 
+/// The words of a sheet before note 2 of document 02.
+const OLD_WORDS: usize = 42;
+
+/// Runs sheets of the old length with MACHI and MACLO put after each, all others
+/// as they are.
+fn widened(sheets: &mut [u32], run: impl FnOnce(&mut [u32]) -> u64) -> u64 {
+    let cores = sheets.len() / OLD_WORDS;
+    if !sheets.len().is_multiple_of(OLD_WORDS) || !(1..=4).contains(&cores) {
+        return run(sheets);
+    }
+    let mut wide = vec![0; cores * SHEET_WORDS];
+    for (to, from) in wide.chunks_mut(SHEET_WORDS).zip(sheets.chunks(OLD_WORDS)) {
+        to[..OLD_WORDS].copy_from_slice(from);
+    }
+    let answer = run(&mut wide);
+    for (to, from) in sheets.chunks_mut(OLD_WORDS).zip(wide.chunks(SHEET_WORDS)) {
+        to.copy_from_slice(&from[..OLD_WORDS]);
+    }
+    answer
+}
+
+/// 02, note 2: "Sheets grow to 44 words".
+#[test]
+fn a_run_that_takes_old_sheets_is_stopped() {
+    let engine = False {
+        name: "takes sheets of 42 words",
+        plain: |memory, sheets, schedule| {
+            widened(sheets, |wide| BY_CACHE.plain_run(memory, wide, schedule))
+        },
+        fast: |memory, sheets, schedule, table| {
+            widened(sheets, |wide| BY_CACHE.fast_run(memory, wide, schedule, table))
+        },
+        ..TRUE
+    };
+    let pair = Pair { one: &BY_HISTORY, other: &engine };
+    assert!(pair.broken_cases(0..300).is_err());
+    assert_eq!(pair.accepted_cases(0..20, 20), Ok(()));
+}
+
 /// A decoder that takes l.jalr naming r9 for any other.
 fn with_jalr_r9(word: u32) -> u64 {
     if word & 0xfc00_f800 == 0x4800_4800 {
@@ -360,6 +283,63 @@ fn wrong_decoders_are_stopped() {
     let same = Pair { one: &BY_CACHE, other: &TRUE };
     assert_eq!(same.words(1, 100), Ok(()));
     assert_eq!(same.entries(1, 100), Ok(()));
+}
+
+/// The entry of a kind with a word's D, A and B.
+fn with_fields(kind: u64, word: u32) -> u64 {
+    let field = |place: u32| u64::from(word >> place & 31);
+    kind << 56 | field(21) << 42 | field(16) << 37 | field(11) << 32
+}
+
+/// The entry that one kind's words get if they are read another way.
+fn read_as(word: u32, mask: u32, value: u32, other: impl Fn(u32) -> u64) -> u64 {
+    if word & mask == value {
+        other(word)
+    } else {
+        BY_CACHE.decode(word)
+    }
+}
+
+type Decode = fn(u32) -> u64;
+
+/// Note 2's rows, each read wrongly in one way.
+const WRONG_ROWS: [(&str, Decode); 8] = [
+    ("takes opcode 31 with bits 3-0 = 3 for l.mac", |word| {
+        read_as(word, 0xfc00_000f, 0xc400_0003, |word| with_fields(86, word & 0x001f_f800))
+    }),
+    ("takes opcode 31 with bits 3-0 = 0 for l.mac", |word| {
+        read_as(word, 0xfc00_000f, 0xc400_0000, |word| with_fields(86, word & 0x001f_f800))
+    }),
+    ("zero-extends l.muli's immediate", |word| {
+        read_as(word, 0xfc00_0000, 0xb000_0000, |word| BY_CACHE.decode(word) & !0xffff_0000)
+    }),
+    ("keeps D of l.mac", |word| {
+        read_as(word, 0xfc00_000f, 0xc400_0001, |word| with_fields(86, word & 0x03ff_f800))
+    }),
+    ("splits l.maci's immediate like a store's", |word| {
+        read_as(word, 0xfc00_0000, 0x4c00_0000, |word| {
+            let half = (word >> 10 & 0xf800 | word & 0x07ff) as u16;
+            with_fields(85, word & 0x001f_0000) | u64::from(half as i16 as u32)
+        })
+    }),
+    ("wants bits 15-0 of l.macrc to be 0", |word| match word & 0xffff {
+        0 => BY_CACHE.decode(word),
+        _ => read_as(word, 0xfc01_0000, 0x1801_0000, |_| 1 << 56),
+    }),
+    ("takes l.mul with bits 9-8 = 0", |word| {
+        read_as(word, 0xfc00_030f, 0xe000_0006, |word| with_fields(80, word))
+    }),
+    ("has l.div and l.divu exchanged", |word| {
+        read_as(word, 0xfc00_030f, 0xe000_0309, |word| with_fields(84, word))
+    }),
+];
+
+#[test]
+fn wrong_rows_are_stopped() {
+    for (name, decode) in WRONG_ROWS {
+        let engine = False { name, decode, ..TRUE };
+        assert!(Pair { one: &BY_CACHE, other: &engine }.words(1, 100).is_err(), "{name}");
+    }
 }
 
 #[test]

@@ -1,7 +1,8 @@
 //! What documents 000 and 001 print, with its section: layouts, and results of
 //! operations; and what an assembler makes of every kind. Asked of every
 //! engine. Where document 01 decides otherwise, its answer stands. For l.addi
-//! and l.addic it is 001 that counts (02, note 1).
+//! and l.addic it is 001 that counts (02, note 1), and for products and
+//! quotients 001 as note 2 words it.
 
 mod common;
 
@@ -13,6 +14,7 @@ use compare::image;
 use compare::isa::{Insn, Kind, KINDS};
 use compare::rng::Rng;
 use compare::state::place::{DELAY, EEAR, EPCR, ESR, LINK, LINK_ADDRESS, MODE, PC, SR, TARGET};
+use compare::state::place::{MACHI, MACLO};
 use compare::state::{CY, DSX, F, IEE, OV, OVE, SM, SR_RESET, TEE};
 use std::collections::BTreeSet;
 use std::path::Path;
@@ -105,21 +107,38 @@ const LAYOUTS: &[Layout] = &[
     layout("000 3.1.5 p.cinvalidate", 77, "111110 iiiii aaaaa ---01 i ii iiii iiii", Sign),
     layout("000 3.1.5 p.cwriteback", 78, "111110 iiiii aaaaa ---10 i ii iiii iiii", Sign),
     layout("000 3.1.5 p.cflush", 79, "111110 iiiii aaaaa ---11 i ii iiii iiii", Sign),
+    layout("001 5.3 l.mul", 80, "111000 ddddd aaaaa bbbbb - 11 ---- 0110", Zero),
+    layout("001 5.3 l.muli", 81, "101100 ddddd aaaaa iiiii i ii iiii iiii", Sign),
+    layout("001 5.3 l.mulu", 82, "111000 ddddd aaaaa bbbbb - 11 ---- 1011", Zero),
+    layout("001 5.3 l.div", 83, "111000 ddddd aaaaa bbbbb - 11 ---- 1001", Zero),
+    layout("001 5.3 l.divu", 84, "111000 ddddd aaaaa bbbbb - 11 ---- 1010", Zero),
+    layout("001 5.3 l.maci", 85, "010011 ----- aaaaa iiiii i ii iiii iiii", Sign),
+    // No document prints these three; note 2 of 02 gives what they are told by.
+    layout("02 l.mac", 86, "110001 ----- aaaaa bbbbb - -- ---- 0001", Zero),
+    layout("02 l.msb", 87, "110001 ----- aaaaa bbbbb - -- ---- 0010", Zero),
+    layout("02 l.macrc", 88, "000110 ddddd ----1 ----- - -- ---- ----", Zero),
 ];
 
-/// Layouts that document 01 leaves out, or that no document has (01 alone).
+/// Layouts that documents 01 and 02 leave out, or that no document has (01 or
+/// 02 alone).
 #[rustfmt::skip]
 const LEFT_OUT: &[(&str, &str)] = &[
-    ("000 3.1.1 l.mul",  "111000 ddddd aaaaa bbbbb - 11 ---- 0110"),
-    ("000 3.1.1 l.mulu", "111000 ddddd aaaaa bbbbb - 11 ---- 1011"),
-    ("001 5.3 l.div",    "111000 ddddd aaaaa bbbbb - 11 ---- 1001"),
-    ("001 5.3 l.divu",   "111000 ddddd aaaaa bbbbb - 11 ---- 1010"),
-    ("000 3.1.1 l.muli", "101100 ddddd aaaaa iiiii i ii iiii iiii"),
-    ("001 5.3 l.maci",   "010011 ----- aaaaa iiiii i ii iiii iiii"),
+    ("02 mul",           "111000 ddddd aaaaa bbbbb - 0- ---- 0110"),
+    ("02 mul",           "111000 ddddd aaaaa bbbbb - 10 ---- 0110"),
+    ("02 div",           "111000 ddddd aaaaa bbbbb - 0- ---- 1001"),
+    ("02 div",           "111000 ddddd aaaaa bbbbb - 10 ---- 1001"),
+    ("02 divu",          "111000 ddddd aaaaa bbbbb - 0- ---- 1010"),
+    ("02 divu",          "111000 ddddd aaaaa bbbbb - 10 ---- 1010"),
+    ("02 mulu",          "111000 ddddd aaaaa bbbbb - 0- ---- 1011"),
+    ("02 mulu",          "111000 ddddd aaaaa bbbbb - 10 ---- 1011"),
+    ("02 opcode 38",     "111000 ddddd aaaaa bbbbb - -- ---- 0111"),
+    ("02 opcode 31",     "110001 ----- aaaaa bbbbb - -- ---- 0000"),
+    ("02 opcode 31",     "110001 ----- aaaaa bbbbb - -- ---- 0011"),
+    ("02 opcode 31",     "110001 ----- aaaaa bbbbb - -- ---- -1--"),
+    ("02 opcode 31",     "110001 ----- aaaaa bbbbb - -- ---- 1---"),
     ("001 5.3 l.jalr",   "010010 ----- ----- 01001 - -- ---- ----"),
     ("001 5.4 lf.madd.s", "110010 ddddd aaaaa bbbbb --- 00000111"),
     ("001 5.4 lf.madd.d", "110010 ddddd aaaaa bbbbb --- 00010111"),
-    ("01 movhi",         "000110 ddddd ----1 iiiii i ii iiii iiii"),
     ("01 nop",           "000101 00--- ----- kkkkk k kk kkkk kkkk"),
     ("01 nop",           "000101 1---- ----- kkkkk k kk kkkk kkkk"),
     ("01 p.*",           "111110 iiiii aaaaa ---00 i ii iiii iiii"),
@@ -438,6 +457,101 @@ fn of_range() -> Vec<Outcome> {
     ]
 }
 
+/// 001 5.3: l.mul, l.muli and l.mulu, their products, flags and exception.
+fn of_products() -> Vec<Outcome> {
+    let flags = |source, code: u32, x, y, before: u32, z, after: u32| {
+        let before = [(3, x), (4, y), (SR, SR_RESET | before)];
+        let after = [(5, z), (SR, SR_RESET | after), (PC, START + 4), (ESR, SR_RESET)];
+        result(source, &[code], &before, &after)
+    };
+    let range = |source, code: u32, x, y, z, flags: u32| {
+        let before = [(3, x), (4, y), (SR, SR_RESET | OVE)];
+        let (esr, sr) = ((ESR, SR_RESET | OVE | flags), (SR, SR_RESET | flags));
+        result(source, &[code], &before, &[(PC, 0xb00), (EPCR, START), (5, z), esr, sr])
+    };
+    let (mul, mulu) = (on_registers(Mul), on_registers(Mulu));
+    let muli = |imm: u32| with(Muli, imm);
+    vec![
+        flags("001 5.3 l.mul: rA * rB", mul, 6, 7, CY | OV, 42, 0),
+        flags("001 5.3 l.mul: signed integers", mul, MINUS_1, 7, 0, 7u32.wrapping_neg(), CY),
+        flags("001 5.3 l.mul: truncated", mul, 0x1_0001, 0x1_0001, 0, 0x2_0001, CY | OV),
+        flags("001 5.3 l.mul: SR[OV] <- overflow", mul, LEAST, 3, 0, LEAST, CY | OV),
+        range("001 5.3 l.mul: Range Exception", mul, MOST, 2, 0xffff_fffe, OV),
+        flags("001 5.3 l.muli: rA * exts(Immediate)", muli(7), 6, 0, CY | OV, 42, 0),
+        flags("001 5.3 l.muli: sign extended", muli(MINUS_1), 7, 0, 0, 7u32.wrapping_neg(), CY),
+        flags("001 5.3 l.muli: SR[OV] <- overflow", muli(2), LEAST, 0, 0, 0, CY | OV),
+        range("001 5.3 l.muli: Range Exception", muli(2), MOST, 0, 0xffff_fffe, OV),
+        flags("001 5.3 l.mulu: rA * rB", mulu, 6, 7, CY | OV, 42, 0),
+        flags("001 5.3 l.mulu: SR[CY] <- carry", mulu, MINUS_1, 7, 0, 7u32.wrapping_neg(), CY),
+        flags("001 5.3 l.mulu: SR[OV] <- 0", mulu, MOST, 2, OV, 0xffff_fffe, 0),
+        flags("001 5.3 l.mulu: Exceptions: None", mulu, LEAST, 2, OVE, 0, OVE | CY),
+    ]
+}
+
+/// 001 5.3: l.div and l.divu, their flags and exception.
+fn of_quotients() -> Vec<Outcome> {
+    let divide = |source, kind, x, y, before: u32, z, after: u32| {
+        let before = [(3, x), (4, y), (5, 9), (SR, SR_RESET | before)];
+        let after = [(5, z), (SR, SR_RESET | after), (PC, START + 4)];
+        result(source, &[on_registers(kind)], &before, &after)
+    };
+    let by_zero = |source, kind| {
+        let before = [(3, 7), (5, 9), (SR, SR_RESET | OVE | OV)];
+        let (esr, sr) = ((ESR, SR_RESET | OVE | CY), (SR, SR_RESET | CY));
+        let after = [(5, 9), (PC, 0xb00), (EPCR, START), esr, sr];
+        result(source, &[on_registers(kind)], &before, &after)
+    };
+    let minus = |number: u32| number.wrapping_neg();
+    vec![
+        divide("001 5.3 l.div: rA / rB", Div, 42, 7, CY | OV, 6, 0),
+        divide("001 5.3 l.div: signed integers", Div, minus(42), 7, 0, minus(6), 0),
+        divide("02 l.div: truncates toward zero", Div, minus(43), 7, 0, minus(6), 0),
+        divide("02 l.div: 80000000 by ffffffff", Div, LEAST, MINUS_1, OVE, LEAST, OVE),
+        divide("001 5.3 l.div: SR[CY] <- rB == 0", Div, 7, 0, OV, 9, CY),
+        by_zero("001 5.3 l.div: Range exception when divisor is zero", Div),
+        divide("001 5.3 l.divu: rA / rB", Divu, 42, 7, CY | OV, 6, 0),
+        divide("001 5.3 l.divu: unsigned integers", Divu, MINUS_1, LEAST, OVE, 1, OVE),
+        divide("001 5.3 l.divu: SR[CY] <- rB == 0", Divu, 7, 0, OV, 9, CY),
+        by_zero("001 5.3 l.divu: Range exception when divisor is zero", Divu),
+    ]
+}
+
+/// 001 5.3: l.maci; 02, note 2: the other accumulating kinds and l.macrc.
+fn of_accumulators() -> Vec<Outcome> {
+    let all = SR_RESET | CY | OV | OVE;
+    let step = |source, code: u32, (x, y), (high, low), (after_high, after_low)| {
+        let before = [(3, x), (4, y), (MACHI, high), (MACLO, low), (SR, all)];
+        let after = [(MACHI, after_high), (MACLO, after_low), (SR, all), (PC, START + 4)];
+        result(source, &[code], &before, &after)
+    };
+    let maci = |imm: u32| asm(Maci, 0, 3, 0, imm);
+    let (mac, msb) = (asm(Mac, 0, 3, 4, 0), asm(Msb, 0, 3, 4, 0));
+    vec![
+        step("001 5.3 l.maci: temp1 + exts(temp2)", maci(7), (6, 0), (1, 8), (1, 50)),
+        step(
+            "001 5.3 l.maci: exts(Immediate)",
+            maci(MINUS_1),
+            (6, 0),
+            (1, 0),
+            (0, 6u32.wrapping_neg()),
+        ),
+        step("001 5.3 l.maci: truncated", maci(2), (LEAST, 0), (1, 8), (1, 8)),
+        step("001 5.3 l.maci: sign extended", maci(2), (1 << 30, 0), (0, 0), (MINUS_1, LEAST)),
+        step("02 l.mac: add", mac, (6, 7), (1, MINUS_1), (2, 41)),
+        step("02 l.msb: subtract", msb, (6, 7), (1, 0), (0, 42u32.wrapping_neg())),
+        result(
+            "02 l.macrc: moves MACLO, clears both",
+            &[asm(Macrc, 5, 0, 0, 0)],
+            &[(MACHI, 3), (MACLO, 4), (SR, all)],
+            &[(5, 4), (MACHI, 0), (MACLO, 0), (SR, all), (PC, START + 4)],
+        ),
+        result("02: MACHI at 2802", &[with(Mfspr, 0x2802)], &[(MACHI, 7)], &[(5, 7)]),
+        result("02: MACLO at 2801", &[with(Mfspr, 0x2801)], &[(MACLO, 7)], &[(5, 7)]),
+        result("02: MACHI at 2802", &[asm(Mtspr, 0, 0, 4, 0x2802)], &[(4, 7)], &[(MACHI, 7)]),
+        result("02: MACLO at 2801", &[asm(Mtspr, 0, 0, 4, 0x2801)], &[(4, 7)], &[(MACLO, 7)]),
+    ]
+}
+
 /// 3.1.2: loads and stores.
 fn of_memory() -> Vec<Outcome> {
     let load = |source, kind, offset: u32, value| {
@@ -630,8 +744,9 @@ fn case_of(result: &Outcome) -> Case {
 #[test]
 fn results() {
     let on_numbers = [of_alu(), of_flags(), of_immediate_sums(), of_range()];
+    let of_note_2 = [of_products(), of_quotients(), of_accumulators()];
     let others = [of_memory(), of_control(), of_special(), of_exceptions()];
-    let all = [on_numbers, others].concat().concat();
+    let all = [on_numbers.as_slice(), &of_note_2, &others].concat().concat();
     for result in &all {
         let case = case_of(result);
         for engine in engines() {

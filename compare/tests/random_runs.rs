@@ -3,7 +3,7 @@
 
 mod common;
 
-use common::sums::Sums;
+use common::watch::Counts;
 use compare::battery::Pair;
 use compare::cases::{self, Case};
 use compare::check::{self, Codec, BY_CACHE, BY_HISTORY};
@@ -26,13 +26,13 @@ fn expect(verdict: Result<(), String>) {
 
 #[test]
 fn accepted_cases() {
-    let mut sums = Sums::default();
+    let mut counts = Counts::default();
     for seed in 0..12_000 {
         let case = cases::accepted_case(&mut Rng::new(seed), 400);
-        sums.watch(&case);
+        counts.watch(&case);
         expect(PAIR.case(&case, 0).map_err(|text| format!("seed {seed}: {text}")));
     }
-    sums.expect("accepted cases", 5_000);
+    counts.expect("accepted cases", [5_000, 2_500]);
 }
 
 #[test]

@@ -64,7 +64,8 @@ fn refusal_2_sheet_counts() {
     for cores in 1..=4 {
         assert_eq!(refusals(&good(cores, 4_096)), (0, 0));
     }
-    for words in [0, 1, 41, 43, 83, 85, 167, 169, 210, 420] {
+    // 42 for each core were taken before note 2 of document 02.
+    for words in [0, 1, 42, 43, 45, 84, 87, 89, 126, 168, 175, 177, 210, 220, 440] {
         let mut case = good(4, 4_096);
         case.sheets.resize(words, 0);
         assert_eq!(refusals(&case), (2, 2), "{words}");
@@ -112,6 +113,8 @@ const KEPT: &[Change] = &[
     &[(place::LINK, 1)],
     &[(place::LINK, 1), (place::LINK_ADDRESS, 0xffff_fffc)],
     &[(place::MODE, 0)],
+    &[(place::MACHI, u32::MAX)],
+    &[(place::MACLO, u32::MAX)],
 ];
 
 #[test]

@@ -284,9 +284,15 @@ fn writes_to_r0_are_dropped() {
         asm(Kind::Mfspr, 0, 0, 0, 17),
         asm(Kind::Movhi, 0, 0, 0, 1),
         asm(Kind::Fl1, 0, 3, 0, 0),
+        asm(Kind::Mul, 0, 3, 3, 0),
+        asm(Kind::Muli, 0, 3, 0, 2),
+        asm(Kind::Mulu, 0, 3, 3, 0),
+        asm(Kind::Div, 0, 3, 3, 0),
+        asm(Kind::Divu, 0, 3, 3, 0),
+        asm(Kind::Macrc, 0, 0, 0, 0),
     ] {
         let mut bench = Bench::new(1);
-        bench.cores[0].regs[3] = 5;
+        (bench.cores[0].regs[3], bench.cores[0].maclo) = (5, 5);
         bench.put(0, 0xffff_ffff);
         bench.run(0, word);
         assert_eq!(bench.cores[0].regs[0], 0, "{word:08x}");
@@ -602,8 +608,10 @@ fn special_registers_read() {
     bench.cores[2].pc = 0x180;
     let core = &mut bench.cores[2];
     (core.sr, core.epcr, core.eear, core.esr) = (SR | CY, 0x44, 0x33, SR | F);
-    let known = [(17, SR | CY), (32, 0x44), (48, 0x33), (64, SR | F), (128, 2), (129, 3)];
-    for number in 0..2_048 {
+    (core.machi, core.maclo) = (0x66, 0x99);
+    let of_01 = [(17, SR | CY), (32, 0x44), (48, 0x33), (64, SR | F), (128, 2), (129, 3)];
+    let known = [of_01.as_slice(), &[(0x2801, 0x99), (0x2802, 0x66)]].concat();
+    for number in 0..=0xffff {
         bench.cores[2].pc = 0x180;
         bench.cores[2].regs[5] = 0x77;
         bench.run(2, asm(Kind::Mfspr, 5, 0, 0, number));
@@ -634,8 +642,10 @@ fn special_registers_written() {
     assert_eq!(write(64, 0).esr, 0x8000);
     assert_eq!(write(32, u32::MAX).epcr, 0xffff_fffc);
     assert_eq!(write(48, u32::MAX).eear, u32::MAX);
+    assert_eq!(write(0x2801, u32::MAX).accumulator(), 0xffff_ffff);
+    assert_eq!(write(0x2802, u32::MAX).accumulator(), 0xffff_ffff_0000_0000);
     let nothing = write(0, u32::MAX);
-    for number in [1, 16, 18, 33, 49, 65, 128, 129, 0xffff] {
+    for number in [1, 16, 18, 33, 49, 65, 128, 129, 0x2800, 0x2803, 0xffff] {
         assert_eq!(write(number, u32::MAX), nothing, "{number}");
     }
 }

@@ -34,24 +34,38 @@ fn rows_of_document_01_alone() {
     }
 }
 
+/// Rows that document 02 alone gives, with every reserved bit set.
+#[test]
+fn rows_of_document_02_alone() {
+    let (a, b, d) = (5 << 37, 6 << 32, 3 << 42);
+    assert_eq!(isa::decode(0xc7e5_37f1), 86 << 56 | a | b);
+    assert_eq!(isa::decode(0xc7e5_37f2), 87 << 56 | a | b);
+    assert_eq!(isa::decode(0x187f_ffff), 88 << 56 | d);
+    assert_eq!(isa::encode(86 << 56 | a | b), 0xc405_3001);
+    assert_eq!(isa::encode(87 << 56 | a | b), 0xc405_3002);
+    assert_eq!(isa::encode(88 << 56 | d), 0x1861_0000);
+    for low in [0, 3, 4, 5, 6, 7, 8, 9, 10, 11, 12, 13, 14, 15] {
+        assert_eq!(isa::decode(0xc405_3000 | low), 1 << 56, "{low:x}");
+    }
+    for entry in [86 << 56 | a | b | d, 87 << 56 | a | b | 1, 88 << 56 | d | a, 89 << 56] {
+        assert_eq!(isa::encode(entry), NO_WORD, "{entry:016x}");
+    }
+}
+
 /// Bits `high` to `low` of a word.
 fn bits(word: u32, high: u32, low: u32) -> u32 {
     word >> low & ((1 << (high - low + 1)) - 1)
 }
 
-/// The kind of a word, read off document 01's list in its order.
+/// The kind of a word, read off document 01's list and note 2 of document 02.
 fn kind_by_list(word: u32) -> u32 {
     let opcode = word >> 26;
-    let set_flag = |first: u32| match bits(word, 25, 21) {
-        relation @ 0..=5 => first + relation,
-        relation @ 0xa..=0xd => first + 6 + relation - 0xa,
-        _ => 1,
-    };
     match opcode {
         0x00..=0x01 => 2 + opcode,
         0x03..=0x04 => 1 + opcode,
         0x05 if bits(word, 25, 24) == 1 => 6,
         0x06 if bits(word, 16, 16) == 0 => 7,
+        0x06 => 88,
         0x08 => match bits(word, 25, 16) {
             0x000 => 8,
             0x100 => 9,
@@ -63,17 +77,29 @@ fn kind_by_list(word: u32) -> u32 {
         0x09 => 13,
         0x11 => 14,
         0x12 if bits(word, 15, 11) != 9 => 15,
+        0x13 => 85,
         0x1b => 16,
         0x21..=0x2b => 17 + opcode - 0x21,
+        0x2c => 81,
         0x2d => 28,
         0x2e => 29 + bits(word, 7, 6),
-        0x2f => set_flag(33),
+        0x2f => set_flag_by_list(word, 33),
         0x30 => 43,
+        0x31 if matches!(bits(word, 3, 0), 1 | 2) => 85 + bits(word, 3, 0),
         0x33 => 44,
         0x35..=0x37 => 45 + opcode - 0x35,
         0x38 => register_kind_by_list(word),
-        0x39 => set_flag(67),
+        0x39 => set_flag_by_list(word, 67),
         0x3e if bits(word, 12, 11) != 0 => 76 + bits(word, 12, 11),
+        _ => 1,
+    }
+}
+
+/// "Set-flag order, by bits 25-21"
+fn set_flag_by_list(word: u32, first: u32) -> u32 {
+    match bits(word, 25, 21) {
+        relation @ 0..=5 => first + relation,
+        relation @ 0xa..=0xd => first + 6 + relation - 0xa,
         _ => 1,
     }
 }
@@ -83,7 +109,11 @@ fn register_kind_by_list(word: u32) -> u32 {
     let (two, four) = (bits(word, 9, 8), bits(word, 9, 6));
     match bits(word, 3, 0) {
         low @ 0..=5 if two == 0 => 48 + low,
+        0x6 if two == 3 => 80,
         0x8 if four <= 3 => 54 + four,
+        0x9 if two == 3 => 83,
+        0xa if two == 3 => 84,
+        0xb if two == 3 => 82,
         0xc if four <= 3 => 58 + four,
         0xd if four <= 1 => 62 + four,
         0xe if two == 0 => 64,
@@ -129,7 +159,7 @@ fn round_trips_of_words() {
     }
     // Every bottom half of some.
     for half in 0..=0xffff {
-        for top in [0xe000, 0xe0a5, 0xb8a5, 0x4800, 0xf8a5, 0x18a0, 0x2100] {
+        for top in [0xe000, 0xe0a5, 0xb8a5, 0x4800, 0xf8a5, 0x18a0, 0x18a1, 0x2100, 0xc4a5] {
             check_word(top << 16 | half);
         }
     }
@@ -146,20 +176,21 @@ fn reserved_bits_do_not_matter() {
     }
 }
 
-/// Whether some word decodes to an entry, by document 01's words on fields.
+/// Whether some word decodes to an entry, by document 01's words on fields and
+/// the layouts of note 2 of document 02.
 fn some_word_has(entry: u64) -> bool {
     let insn = Insn::from_entry(entry);
     let kind = entry >> 56;
-    if kind == 0 || kind > 79 || entry >> 47 & 0x1ff != 0 {
+    if kind == 0 || kind > 88 || entry >> 47 & 0x1ff != 0 {
         return false;
     }
     let (uses_d, uses_a, uses_b) = match kind {
         1..=6 | 8..=13 => (false, false, false),
-        7 => (true, false, false),
+        7 | 88 => (true, false, false),
         14 | 15 => (false, false, true),
-        16..=32 | 58..=63 | 65 | 66 => (true, true, false),
-        33..=42 | 77..=79 => (false, true, false),
-        43..=47 | 67..=76 => (false, true, true),
+        16..=32 | 58..=63 | 65 | 66 | 81 => (true, true, false),
+        33..=42 | 77..=79 | 85 => (false, true, false),
+        43..=47 | 67..=76 | 86 | 87 => (false, true, true),
         _ => (true, true, true),
     };
     let signed = |bits: u32| {
@@ -169,7 +200,7 @@ fn some_word_has(entry: u64) -> bool {
     let imm = match kind {
         2..=5 => signed(28) && insn.imm.is_multiple_of(4),
         6..=9 | 25 | 26 | 28 | 43 => insn.imm < 0x1_0000,
-        16..=24 | 27 | 33..=42 | 44..=47 | 77..=79 => signed(16),
+        16..=24 | 27 | 33..=42 | 44..=47 | 77..=79 | 81 | 85 => signed(16),
         29..=32 => insn.imm < 32,
         _ => insn.imm == 0,
     };
@@ -215,7 +246,8 @@ fn kinds_are_counted_as_the_paper_counts_them() {
         assert_eq!(row.kind as usize, index + 1);
         assert_eq!(row.value & !row.mask, 0);
     }
-    assert_eq!(Kind::Cflush as usize, KINDS);
+    assert_eq!((Kind::Cflush as usize, Kind::Mul as usize), (79, 80));
+    assert_eq!((Kind::Macrc as usize, KINDS), (88, 88));
     assert_eq!(Kind::Lwa as u8, 16);
     assert_eq!(Kind::Sfeqi as u8, 33);
     assert_eq!(Kind::Mtspr as u8, 43);

@@ -238,6 +238,9 @@ fn all_work() -> Vec<Work> {
         single("l.lwz only", word(Kind::Lwz, 5, 1, 0, 0)),
         single("l.sw only", word(Kind::Sw, 0, 1, 5, 0)),
         single("p.cflush only", word(Kind::Cflush, 0, 1, 0, 0)),
+        single("l.mul only", word(Kind::Mul, 5, 1, 2, 0)),
+        single("l.div only", word(Kind::Div, 5, 2, 1, 0)),
+        single("l.mac only", word(Kind::Mac, 0, 1, 2, 0)),
         halted(),
     ]);
     for kib in SIZES {

@@ -2,7 +2,11 @@
 //! do with lines to show and with disagreements.
 #![allow(dead_code)]
 
+pub mod products;
+pub mod registration;
 pub mod sums;
+pub mod watch;
+pub mod wrong_step;
 
 use compare::check::{Engine, BY_CACHE, BY_HISTORY};
 use compare::exec::Step;
@@ -74,6 +78,18 @@ pub fn on_two(word: u32, sr: u32, x: u32, y: u32) -> (Bench, Step) {
     bench.cores[0].sr = sr;
     let step = bench.run(0, word);
     (bench, step)
+}
+
+/// The compiled programs' generator: Marsaglia's xorshift32.
+pub struct Xorshift(pub u32);
+
+impl Xorshift {
+    pub fn next(&mut self) -> u32 {
+        self.0 ^= self.0 << 13;
+        self.0 ^= self.0 >> 17;
+        self.0 ^= self.0 << 5;
+        self.0
+    }
 }
 
 /// Not by `eprintln`, which a test that passes does not show.

@@ -1,11 +1,9 @@
 //! How often l.addi and l.addic meet what note 1 of document 02 tells apart.
 
 use super::show;
-use compare::cases::Case;
-use compare::exec;
-use compare::isa::{self, Kind};
-use compare::runs;
-use compare::state::{Core, OV, OVE, SHEET_WORDS};
+use super::watch::Seen;
+use compare::isa::Kind;
+use compare::state::{OV, OVE};
 use std::collections::BTreeMap;
 
 /// One step of either.
@@ -23,26 +21,16 @@ struct Met {
 pub struct Sums(BTreeMap<Met, u32>);
 
 impl Sums {
-    /// Counts those of a case's plain run.
-    pub fn watch(&mut self, case: &Case) {
-        let mut memory = case.memory.clone();
-        let mut cores: Vec<Core> = case.sheets.chunks(SHEET_WORDS).map(Core::from_sheet).collect();
-        for &entry in &case.schedule {
-            let who = usize::from(entry);
-            if cores[who].running {
-                self.watch_step(&mut memory, &mut cores, who);
-            }
-        }
-    }
-
-    fn watch_step(&mut self, memory: &mut [u8], cores: &mut [Core], who: usize) {
-        let core = &cores[who];
-        let (enabled, slot) = (core.has(OVE), core.delay);
-        let kind = exec::fetch(memory, core.pc).map(|word| isa::decode_insn(word).kind);
-        let step = runs::plain_step(memory, cores, who);
-        if let Some(kind @ (Kind::Addi | Kind::Addic)) = kind {
-            let (overflow, raised) = (cores[who].has(OV), step.raised.is_some());
-            *self.0.entry(Met { kind, enabled, overflow, raised, slot }).or_default() += 1;
+    pub fn note(&mut self, seen: &Seen) {
+        if let kind @ (Kind::Addi | Kind::Addic) = seen.insn.kind {
+            let met = Met {
+                kind,
+                enabled: seen.before.has(OVE),
+                overflow: seen.after.has(OV),
+                raised: seen.raised,
+                slot: seen.before.delay,
+            };
+            *self.0.entry(met).or_default() += 1;
         }
     }
 

@@ -1,4 +1,4 @@
--- What the operations of instructions do: document 01, "One instruction". Each is an effect of what its instruction reads, x : Inputs.
+-- What the operations of instructions do: document 01, "One instruction"; document 02, note 2. Each is an effect of what its instruction reads, x : Inputs.
 use mathlib.Core.Bool.{Bool, _&&_}
 use mathlib.Core.List.{List}
 use mathlib.Core.Option.{Option, none, some}
@@ -14,8 +14,9 @@ use Rattle.arith.specs.Status.{F, OVE, allowed, aligned, setCarryOverflow}
 use Rattle.arith.specs.Sums.{addressSum}
 use Rattle.arith.specs.declared.Flagged.{Flagged}
 use Rattle.memory.specs.Memory.{loaded, access}
-use Rattle.effect.specs.State.{epcrAt, eearAt, esrAt}
-use Rattle.effect.specs.Effect.{noStore, inSlot, advances, halting, faults, overflowing, jumping, returning, linking, saving, unlinking}
+use Rattle.product.specs.declared.Accumulator.{Accumulator}
+use Rattle.effect.specs.State.{epcrAt, eearAt, esrAt, machiAt, macloAt}
+use Rattle.effect.specs.Effect.{noStore, inSlot, advances, halting, faults, raisesRange, jumping, returning, linking, saving, unlinking, accumulating, readingAccumulator}
 use Rattle.effect.specs.declared.types.Inputs.{Inputs}
 use Rattle.effect.specs.declared.types.Store.{Store}
 use Rattle.effect.specs.declared.types.Board.{Board}
@@ -53,17 +54,40 @@ outsideSlot x e = if inSlot x then illegal x else e
 unfoldable pub syscall : Inputs → Effect
 syscall x = outsideSlot x (faults x Syscall (x .eear))
 
--- ---- sums
+-- ---- results with flags
 
 abbrev pub flags : Inputs → Flagged → ℕ
 flags x f = setCarryOverflow (f .carry) (f .overflow) (x .sr)
 
 -- "add, addc and sub with OV and SR[OVE] both 1 raise range after rD and flags are written." Document 02, note 1: "From here l.addi and l.addic raise
--- range on OV with OVE, after rD and flags are written, as l.add does."
-unfoldable pub sumsOrRaises : Inputs → Flagged → Effect
-sumsOrRaises x f =
-    if isSet OVE (x .sr) && eqb (f .overflow) 1 then overflowing x (x .d) (f .value) (flags x f) else
+-- range on OV with OVE, after rD and flags are written, as l.add does." Note 2: "mul and muli raise range on OV with OVE, after rD and flags are
+-- written, as l.add does."
+unfoldable pub resultOrRaises : Inputs → Flagged → Effect
+resultOrRaises x f =
+    if isSet OVE (x .sr) && eqb (f .overflow) 1 then raisesRange x (x .d) (f .value) (flags x f) else
     advances x (x .d) (f .value) (flags x f)
+
+-- ---- divisions
+
+-- "A zero divisor sets CY, keeps rD and raises range under OVE;" "both divisions set OV to 0."
+abbrev pub dividesByZero : Inputs → Effect
+dividesByZero x =
+    if isSet OVE (x .sr) then raisesRange x 0 0 (setCarryOverflow 1 0 (x .sr)) else
+    advances x 0 0 (setCarryOverflow 1 0 (x .sr))
+
+-- "other divisors clear CY." q is the quotient by rB
+unfoldable pub divides : Inputs → ℕ → Effect
+divides x q = if eqb (x .b) 0 then dividesByZero x else advances x (x .d) q (setCarryOverflow 0 0 (x .sr))
+
+-- ---- the accumulator
+
+-- MACHI and MACLO become m
+abbrev pub accumulates : Inputs → Accumulator → Effect
+accumulates x m = accumulating x 0 0 m
+
+-- l.macrc
+abbrev pub readsAccumulator : Inputs → Effect
+readsAccumulator x = readingAccumulator x
 
 -- ---- jumps
 
@@ -131,7 +155,8 @@ touch x len = reaches x 1 len (nothing x)
 
 -- ---- special-purpose registers
 
--- "17 SR, 32 EPCR, 48 EEAR, 64 ESR; 128 core number and 129 core count are read-only. Others read 0; writes are ignored."
+-- "17 SR, 32 EPCR, 48 EEAR, 64 ESR; 128 core number and 129 core count are read-only. Others read 0; writes are ignored." Document 02, note 2, of MACHI
+-- and MACLO: "their SPRs are 2802 and 2801 hexadecimal."
 unfoldable pub specialRegister : Board → Inputs → ℕ → ℕ
 specialRegister board x n =
     if eqb n 17 then x .sr else
@@ -140,6 +165,8 @@ specialRegister board x n =
     if eqb n 64 then x .esr else
     if eqb n 128 then x .core else
     if eqb n 129 then board .cores else
+    if eqb n 0x2801 then x .accumulator .low else
+    if eqb n 0x2802 then x .accumulator .high else
     0
 
 -- "Bits that SR or ESR may not have, and EPCR's low two, are dropped; bit 15 stays 1."
@@ -149,4 +176,6 @@ setsSpecialRegister x n v =
     if eqb n 32 then advances x epcrAt (aligned v) (x .sr) else
     if eqb n 48 then advances x eearAt v (x .sr) else
     if eqb n 64 then advances x esrAt (allowed v) (x .sr) else
+    if eqb n 0x2801 then advances x macloAt v (x .sr) else
+    if eqb n 0x2802 then advances x machiAt v (x .sr) else
     nothing x

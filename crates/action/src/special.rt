@@ -18,6 +18,8 @@ pub fn read(board: Board, x: Inputs, n: u32) -> u32
         64 => x.esr,
         128 => x.core,
         129 => board.cores,
+        0x2801 => x.accumulator.low,
+        0x2802 => x.accumulator.high,
         _ => 0,
     }
 }
@@ -30,6 +32,8 @@ pub fn write(x: Inputs, n: u32, v: u32) -> Written
         32 => completed::written(state::EPCR as u32, arith::align(v), x.sr),
         48 => completed::written(state::EEAR as u32, v, x.sr),
         64 => completed::written(state::ESR as u32, arith::keep_allowed(v), x.sr),
+        0x2801 => completed::written(state::MACLO as u32, v, x.sr),
+        0x2802 => completed::written(state::MACHI as u32, v, x.sr),
         _ => completed::nothing(x),
     }
 }

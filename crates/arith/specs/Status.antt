@@ -48,7 +48,7 @@ allowed x = 2 ^ 15 + only statusBits x
 abbrev pub aligned : ℕ → ℕ
 aligned x = x / 4 * 4
 
--- SR with the flags of a sum or difference
+-- SR with CY and OV
 abbrev pub setCarryOverflow : ℕ → ℕ → ℕ → ℕ
 setCarryOverflow cy ov sr = setBit OV ov (setBit CY cy sr)
 

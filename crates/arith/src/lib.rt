@@ -78,7 +78,7 @@ pub fn carry(sr: u32) -> u32
     bit_at(sr, CY)
 }
 
-// CY and OV after a sum or difference.
+// SR with CY and OV.
 pub fn set_carry_overflow(sr: u32, cy: u32, ov: u32) -> u32
     requires { ⌜ (cy < 2) × (ov < 2) ⌝ }
     ensures { λ r. ⌜ r ≡ setCarryOverflow cy ov sr ⌝ }
@@ -86,7 +86,7 @@ pub fn set_carry_overflow(sr: u32, cy: u32, ov: u32) -> u32
     set_bit(set_bit(sr, CY, cy), OV, ov)
 }
 
-// OVE: overflow raises range.
+// OVE: an overflow, and a division by 0, raise range.
 pub fn overflow_enabled(sr: u32) -> bool
     ensures { λ r. ⌜ r ≡ isSet OVE sr ⌝ }
 {

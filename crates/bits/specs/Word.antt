@@ -20,10 +20,14 @@ bit false = 0
 unfoldable pub signed : ℕ → ℕ → ℤ
 signed k x = subℕ (x % 2 ^ k) (bitAt (k - 1) x * 2 ^ k)
 
--- the 32-bit word of a number: its low 32 bits, where - (n + 1) has the bits that n has not
+-- a number modulo 2 ^ k: its k low bits, where - (n + 1) has the bits that n has not
+abbrev pub modulo : ℕ → ℤ → ℕ
+modulo k (pos n) = n % 2 ^ k
+modulo k (negsuc n) = 2 ^ k - 1 - n % 2 ^ k
+
+-- the 32-bit word of a number
 unfoldable pub word : ℤ → ℕ
-word (pos n) = n % 2 ^ 32
-word (negsuc n) = 2 ^ 32 - 1 - n % 2 ^ 32
+word z = modulo 32 z
 
 -- the k low bits of x extended to a word: sign-extended, or zero-extended
 unfoldable pub extend : Bool → ℕ → ℕ → ℕ

@@ -1,6 +1,6 @@
 // From a word to its entry: the kind by the opcode, then the fields that the kind has.
 ghost use mathlib.Core.Path.{_≡_};
-ghost use Prim.Native.Nat.{_<_, _%_, _^_};
+ghost use Prim.Native.Nat.{_≤_, _<_, _%_, _^_};
 ghost use lib.Dec.{eqb};
 ghost use Rattle.bits.specs.Choice.{if_then_else_};
 ghost use Rattle.isa.specs.Groups.{kinds};
@@ -54,6 +54,32 @@ fn compare_kind(first: u8, x: u32) -> u8
     }
 }
 
+// Opcode 31, by bits 3-0.
+fn accumulate_kind(x: u32) -> u8
+    requires { ⌜ x < 16 ⌝ }
+    ensures { λ r. ⌜ r ≡ kindIn 0x31 0 x ⌝ }
+{
+    match x {
+        1 => 86, // l.mac
+        2 => 87, // l.msb
+        _ => 1,
+    }
+}
+
+// Opcode 38 with bits 9-8 = 3, by bits 9-0, of which 3-0 count.
+fn product_kind(x: u32) -> u8
+    requires { ⌜ (768 ≤ x) × (x < 1024) ⌝ }
+    ensures { λ r. ⌜ r ≡ kindIn 0x38 0 x ⌝ }
+{
+    match x % 16 {
+        6 => 80, // l.mul
+        9 => 83, // l.div
+        10 => 84, // l.divu
+        11 => 82, // l.mulu
+        _ => 1,
+    }
+}
+
 // Opcode 38, by bits 9-0, of which 9-6 and 3-0 count.
 fn register_kind(x: u32) -> u8
     requires { ⌜ x < 1024 ⌝ }
@@ -61,6 +87,9 @@ fn register_kind(x: u32) -> u8
 {
     let high = (x / 64) as u8;
     let low = (x % 16) as u8;
+    if 12 <= high {
+        return product_kind(x);
+    }
     if 8 <= high {
         return 1;
     }
@@ -100,18 +129,21 @@ fn kind_of(w: u32) -> u8
         0x03 => 4, // l.bnf
         0x04 => 5, // l.bf
         0x05 => kind_by(w / 0x100_0000 % 4, 1, 6, 1), // l.nop
-        0x06 => kind_by(w / 0x1_0000 % 2, 0, 7, 1), // l.movhi
+        0x06 => kind_by(w / 0x1_0000 % 2, 0, 7, 88), // l.movhi, macrc
         0x08 => system_kind(w / 0x1_0000 % 1024),
         0x09 => 13, // l.rfe
         0x11 => 14, // l.jr
         0x12 => kind_by(w / 0x800 % 32, 9, 1, 15), // l.jalr, which may not name r9
+        0x13 => 85, // l.maci
         0x1b => 16, // l.lwa
         0x21..=0x26 => (opcode as u8) - 16, // l.lwz, lws, lbz, lbs, lhz, lhs
         0x27..=0x2b => (opcode as u8) - 16, // l.addi, addic, andi, ori, xori
+        0x2c => 81, // l.muli
         0x2d => 28, // l.mfspr
         0x2e => shift_kind(w / 64 % 4),
         0x2f => compare_kind(groups::COMPARE_IMMEDIATE, w / 0x20_0000 % 32),
         0x30 => 43, // l.mtspr
+        0x31 => accumulate_kind(w % 16),
         0x33 => 44, // l.swa
         0x35..=0x37 => (opcode as u8) - 8, // l.sw, sb, sh
         0x38 => register_kind(w % 1024),
@@ -171,5 +203,6 @@ pub fn decode(w: u32) -> u64
     ensures { λ r. ⌜ r ≡ decodeOf w ⌝ }
 {
     let k = kind_of(w);
-    isa::entry::pack(k, fields(isa::kinds::shape_of(k), w))
+    let shape = isa::kinds::shape_of(isa::kinds::layout_of(k));
+    isa::entry::pack(k, fields(shape, w))
 }

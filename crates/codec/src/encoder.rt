@@ -80,6 +80,7 @@ pub fn encode(e: u64) -> Encoded
     if groups::KINDS <= k as usize {
         return Encoded::Refused;
     }
-    let fields = field_word(isa::kinds::shape_of(k), isa::entry::unpack(e));
+    let shape = isa::kinds::shape_of(isa::kinds::layout_of(k));
+    let fields = field_word(shape, isa::entry::unpack(e));
     checked(e, isa::kinds::bare_word(k) + fields)
 }

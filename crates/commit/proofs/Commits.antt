@@ -12,8 +12,11 @@ use Rattle.effect.specs.declared.types.Inputs.{Inputs}
 use Rattle.effect.specs.declared.types.Action.{Action}
 use Rattle.effect.specs.declared.types.Effect.{Effect}
 use Rattle.effect.specs.declared.types.Store.{Store}
+use Rattle.effect.specs.declared.types.Accumulated.{Accumulated}
+use Rattle.effect.specs.declared.types.Accumulated.the-variants.{Kept, Became}
 use Rattle.effect.specs.declared.types.Outcome.{Outcome}
 use Rattle.effect.specs.declared.types.Outcome.the-variants.{Completed, Raised}
+use Rattle.effect.proofs.types.Accumulated.{the-type as accumulations}
 use Rattle.effect.proofs.types.Outcome.{the-type}
 use Rattle.commit.specs.Commit.{memoryAfter}
 use Rattle.commit.specs.Inner.{tells, entryInputs, actionEffect, Storable, none, some, Fits, Owned, Performed}
@@ -23,6 +26,11 @@ use Rattle.commit.specs.declared.Done.{Done}
 pub at-completed : (o : Outcome) → tagOf the-type o ≡ 0 → o ≡ Completed
 at-completed Completed h = refl
 at-completed (Raised x) h = absurd (omega arith)
+
+-- and on what becomes of the accumulator
+pub at-kept : (a : Accumulated) → tagOf accumulations a ≡ 0 → a ≡ Kept
+at-kept Kept h = refl
+at-kept (Became m) h = absurd (omega arith)
 
 -- a store that stores has its bytes in memory; one that does not stores nothing
 pub can-store : {len : ℕ} {s : Store} → Storable len s → 0 < s .width → Width (s .width) × (s .address + s .width ≤ len)

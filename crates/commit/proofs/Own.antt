@@ -13,11 +13,13 @@ use Rattle.bits.proofs.Lists.{set-append-add}
 use Rattle.bits.specs.Choice.{if_then_else_}
 use Rattle.isa.specs.Inner.{Registers}
 use Rattle.isa.specs.declared.entry.Fields.{Fields}
-use Rattle.effect.specs.State.{stateWords, pcAt, delayAt, targetAt, srAt, epcrAt, eearAt, esrAt, linkAt, linkAddressAt, modeAt}
+use Rattle.effect.specs.State.{stateWords, pcAt, delayAt, targetAt, srAt, epcrAt, eearAt, esrAt, linkAt, linkAddressAt, modeAt, machiAt, macloAt}
 use Rattle.effect.specs.declared.types.Effect.{Effect}
+use Rattle.effect.specs.declared.types.Accumulated.{Accumulated}
+use Rattle.effect.specs.declared.types.Accumulated.the-variants.{Kept, Became}
 use Rattle.effect.specs.declared.types.Outcome.{Outcome}
 use Rattle.effect.specs.declared.types.Outcome.the-variants.{Completed, Raised}
-use Rattle.commit.specs.Commit.{wordAt, put, inputs, putValue, putFlow, putStatus, putException, ownState}
+use Rattle.commit.specs.Commit.{wordAt, put, inputs, putValue, putFlow, putStatus, putAccumulated, putException, ownState}
 use Rattle.commit.specs.Inner.{ownInputs}
 
 -- the words of a core, and the states with t in their place
@@ -49,6 +51,8 @@ module _ (s : List ℕ) (core : ℕ) (h : core * stateWords + stateWords ≤ len
         part-word esrAt (omega arith),
         part-word linkAt (omega arith),
         part-word linkAddressAt (omega arith),
+        part-word machiAt (omega arith),
+        part-word macloAt (omega arith),
       )
 
   -- t stands in s′ as the core's words, and the rest of s′ is that of s
@@ -85,6 +89,11 @@ module _ (s : List ℕ) (core : ℕ) (h : core * stateWords + stateWords ≤ len
       go true = d
       go false = stands-put (e .place) (e .value) l d
 
+  stands-accumulated : (a : Accumulated) {t s′ : List ℕ} → Stands t s′ → Stands (putAccumulated a t 0) (putAccumulated a s′ core)
+  unfolding putAccumulated
+  stands-accumulated Kept d = d
+  stands-accumulated (Became m) d = stands-put macloAt (m .low) (omega arith) (stands-put machiAt (m .high) (omega arith) d)
+
   stands-exception : (o : Outcome) {t s′ : List ℕ} → Stands t s′ → Stands (putException o t 0) (putException o s′ core)
   unfolding putException
   stands-exception Completed d = d
@@ -104,7 +113,8 @@ module _ (s : List ℕ) (core : ℕ) (h : core * stateWords + stateWords ≤ len
   -- a commit to the part is a commit to the states
   part-committed : (e : Effect) → e .place < stateWords → with-part s core (ownState (part s core) 0 e) ≡ ownState s core e
   unfolding ownState
-  part-committed e l = stands-exception (e .outcome) (stands-status e (stands-flow e (stands-value e l at-first))) .whole
+  part-committed e l =
+      stands-exception (e .outcome) (stands-accumulated (e .accumulated) (stands-status e (stands-flow e (stands-value e l at-first)))) .whole
 
   -- the same of the part from core * stateWords to core * stateWords + stateWords, as the code has it
   module _ (n : ℕ) (q : n ≡ stateWords) where

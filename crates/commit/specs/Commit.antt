@@ -1,5 +1,5 @@
 -- What an instruction reads of its core's state, and what its effect leaves in memory and in every state: document 01, "What is lent" and "One
--- instruction". The states are one list, stateWords for each core.
+-- instruction"; document 02, note 2. The states are one list, stateWords for each core.
 use mathlib.Core.Bool.{Bool, _&&_}
 use mathlib.Core.List.{List}
 use Prim.Native.Nat.{ℕ, zero, suc, _+_, _*_, _/_}
@@ -10,10 +10,12 @@ use Rattle.isa.specs.declared.entry.Fields.{Fields}
 use Rattle.isa.specs.Vectors.{vector}
 use Rattle.isa.specs.declared.vectors.Cause.the-variants.{Bus}
 use Rattle.memory.specs.Memory.{stored}
-use Rattle.effect.specs.State.{stateWords, pcAt, delayAt, targetAt, srAt, epcrAt, eearAt, esrAt, linkAt, linkAddressAt, modeAt}
+use Rattle.effect.specs.State.{stateWords, pcAt, delayAt, targetAt, srAt, epcrAt, eearAt, esrAt, linkAt, linkAddressAt, modeAt, machiAt, macloAt}
 use Rattle.effect.specs.Effect.{faults}
 use Rattle.effect.specs.declared.types.Inputs.{Inputs}
 use Rattle.effect.specs.declared.types.Effect.{Effect}
+use Rattle.effect.specs.declared.types.Accumulated.{Accumulated}
+use Rattle.effect.specs.declared.types.Accumulated.the-variants.{Kept, Became}
 use Rattle.effect.specs.declared.types.Outcome.{Outcome}
 use Rattle.effect.specs.declared.types.Outcome.the-variants.{Completed, Raised}
 
@@ -41,6 +43,7 @@ reads core word f = record {
   eear = word eearAt;
   esr = word esrAt;
   link = record { held = word linkAt; address = word linkAddressAt };
+  accumulator = record { high = word machiAt; low = word macloAt };
 }
 
 unfoldable pub inputs : List ℕ → ℕ → Fields → Inputs
@@ -57,6 +60,11 @@ unfoldable pub putStatus : List ℕ → ℕ → Effect → List ℕ
 putStatus s core e =
     put (put (put (put s core srAt (e .sr)) core linkAt (e .link .held)) core linkAddressAt (e .link .address)) core modeAt (e .mode)
 
+-- MACHI and MACLO, if the instruction accumulates or clears them
+unfoldable pub putAccumulated : Accumulated → List ℕ → ℕ → List ℕ
+putAccumulated Kept s core = s
+putAccumulated (Became m) s core = put (put s core machiAt (m .high)) core macloAt (m .low)
+
 -- an exception goes to its vector and leaves EPCR, EEAR and ESR too
 unfoldable pub putException : Outcome → List ℕ → ℕ → List ℕ
 putException Completed s core = s
@@ -70,7 +78,8 @@ raisedBy (Raised x) = 1
 
 -- the states after a core's effect, before links are cleared
 unfoldable pub ownState : List ℕ → ℕ → Effect → List ℕ
-ownState s core e = putException (e .outcome) (putStatus (putFlow (putValue s core e) core e) core e) core
+ownState s core e =
+    putException (e .outcome) (putAccumulated (e .accumulated) (putStatus (putFlow (putValue s core e) core e) core e) core) core
 
 -- "Any store clears every core's link to the word it touches. A cleared link has link address 0." w is the word's address
 unfoldable pub clearLink : List ℕ → ℕ → ℕ → List ℕ

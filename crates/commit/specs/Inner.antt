@@ -1,4 +1,4 @@
--- Helper of the code. What the parts of a commit promise one another, and what an instruction tells the run; document 01's commit is Commit.antt.
+-- Helper of the code. What the parts of a commit promise one another, and what an instruction tells the run; the papers' commit is Commit.antt.
 use mathlib.Core.List.{List}
 use mathlib.Core.Path.{_≡_}
 use Prim.Native.Nat.{ℕ, _+_, _<_, _≤_}

@@ -11,6 +11,7 @@ use effect::types::Flow;
 use effect::types::Inputs;
 use effect::types::Link;
 use isa::entry::Fields;
+use product::Accumulator;
 
 // What an instruction with the fields f reads of its core's own state.
 fn inputs_of(own: &[u32], core: usize, f: Fields) -> Inputs
@@ -36,6 +37,10 @@ fn inputs_of(own: &[u32], core: usize, f: Fields) -> Inputs
         link: Link {
             held: own[state::LINK],
             address: own[state::LINK_ADDRESS],
+        },
+        accumulator: Accumulator {
+            high: own[state::MACHI],
+            low: own[state::MACLO],
         },
     }
 }

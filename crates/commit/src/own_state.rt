@@ -3,13 +3,15 @@ ghost use mathlib.Core.Path.{_≡_};
 ghost use Prim.Native.Nat.{_≤_, _<_};
 ghost use lib.ListN.{length};
 ghost use Rattle.effect.specs.State.{stateWords};
-ghost use Rattle.commit.specs.Commit.{putValue, putFlow, putStatus, putException};
+ghost use Rattle.commit.specs.Commit.{putValue, putFlow, putStatus, putAccumulated, putException};
 ghost use Rattle.commit.specs.Inner.{Owned};
 use effect::state;
+use effect::types::Accumulated;
 use effect::types::Effect;
 use effect::types::Exception;
 use effect::types::Outcome;
 use isa::vectors;
+use product::Accumulator;
 
 // The register, or special-purpose register, that an effect writes; r0 is dropped.
 fn put_value(own: &mut [u32], e: Effect)
@@ -39,6 +41,25 @@ fn put_status(own: &mut [u32], e: Effect)
     own[state::LINK] = e.link.held;
     own[state::LINK_ADDRESS] = e.link.address;
     own[state::MODE] = e.mode;
+}
+
+fn put_accumulator(own: &mut [u32], m: Accumulator)
+    requires { ⌜ stateWords ≤ length (now own) ⌝ }
+    ensures { λ _. ⌜ now (own .exit) ≡ putAccumulated (Accumulated.Became m) (now (own .entry)) 0 ⌝ }
+{
+    own[state::MACHI] = m.high;
+    own[state::MACLO] = m.low;
+}
+
+// MACHI and MACLO, if they are not kept.
+fn put_accumulated(own: &mut [u32], accumulated: Accumulated)
+    requires { ⌜ stateWords ≤ length (now own) ⌝ }
+    ensures { λ _. ⌜ now (own .exit) ≡ putAccumulated accumulated (now (own .entry)) 0 ⌝ }
+{
+    match accumulated {
+        Accumulated::Kept => {}
+        Accumulated::Became(m) => put_accumulator(own, m),
+    }
 }
 
 // An exception's vector, EPCR, EEAR and ESR.
@@ -73,6 +94,8 @@ pub fn commit_state(own: &mut [u32], e: Effect) -> Outcome
     put_value(own, e);
     put_flow(own, e);
     put_status(own, e);
+    let accumulated = e.accumulated;
+    put_accumulated(own, accumulated);
     let outcome = e.outcome;
     put_outcome(own, outcome);
     outcome

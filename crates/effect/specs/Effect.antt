@@ -1,4 +1,4 @@
--- What an instruction may do: document 01, "One instruction" and its vectors. What each operation does of it stands in action/specs/Operations.
+-- What an instruction may do: document 01, "One instruction" and its vectors; document 02, note 2. What each operation does of it stands in action/specs/Operations.
 -- An instruction reads x : Inputs (its fields, its registers' values and its core's state before it) and has an Effect.
 use mathlib.Core.Bool.{Bool}
 use Prim.Native.Nat.{ℕ}
@@ -10,12 +10,16 @@ use Rattle.isa.specs.declared.vectors.Cause.the-variants.{Bus, Alignment, Illeg
 use Rattle.arith.specs.Bit.{setBit}
 use Rattle.arith.specs.Status.{F, exceptionSR}
 use Rattle.arith.specs.Sums.{addressSum, addressDifference}
+use Rattle.product.specs.Accumulate.{cleared}
+use Rattle.product.specs.declared.Accumulator.{Accumulator}
 use Rattle.effect.specs.State.{halted, running}
 use Rattle.effect.specs.declared.types.Inputs.{Inputs}
 use Rattle.effect.specs.declared.types.Flow.{Flow}
 use Rattle.effect.specs.declared.types.Link.{Link}
 use Rattle.effect.specs.declared.types.Store.{Store}
 use Rattle.effect.specs.declared.types.Effect.{Effect}
+use Rattle.effect.specs.declared.types.Accumulated.{Accumulated}
+use Rattle.effect.specs.declared.types.Accumulated.the-variants.{Kept, Became}
 use Rattle.effect.specs.declared.types.Outcome.the-variants.{Completed, Raised}
 
 -- "A cleared link has link address 0."
@@ -28,18 +32,23 @@ noStore = record { width = 0; address = 0; value = 0 }
 -- "A step ends in a completed instruction or in one exception, which carries its vector and address."
 
 -- A completed instruction: v goes to the word of its state at place ("Writes to r0 are dropped": place 0 is none), and SR, the flow, the
--- link, the mode and a store are as given.
-abbrev pub completed : ℕ → ℕ → ℕ → Flow → Link → ℕ → Store → Effect
-completed place v sr flow link mode store = record {
+-- link, the mode, MACHI and MACLO and a store are as given.
+abbrev pub completing : ℕ → ℕ → ℕ → Flow → Link → ℕ → Accumulated → Store → Effect
+completing place v sr flow link mode accumulated store = record {
   place = place;
   value = v;
   sr = sr;
   flow = flow;
   link = link;
   mode = mode;
+  accumulated = accumulated;
   store = store;
   outcome = Completed;
 }
+
+-- one that keeps MACHI and MACLO
+abbrev pub completed : ℕ → ℕ → ℕ → Flow → Link → ℕ → Store → Effect
+completed place v sr flow link mode store = completing place v sr flow link mode Kept store
 
 abbrev pub inSlot : Inputs → Bool
 inSlot x = eqb (x .flow .delay) 1
@@ -85,6 +94,16 @@ saving x s = completed 0 0 (x .sr) (onward x) (x .link) running s
 abbrev pub unlinking : Inputs → ℕ → Store → Effect
 unlinking x flag s = completed 0 0 (setBit F flag (x .sr)) (onward x) noLink running s
 
+-- ---- the accumulator
+
+-- v goes to place, and MACHI and MACLO become m. Document 02, note 2: "The accumulating kinds .. keep the flags."
+abbrev pub accumulating : Inputs → ℕ → ℕ → Accumulator → Effect
+accumulating x place v m = completing place v (x .sr) (onward x) (x .link) running (Became m) noStore
+
+-- "macrc moves MACLO to rD and clears both." No flag is named, so all stay.
+abbrev pub readingAccumulator : Inputs → Effect
+readingAccumulator x = accumulating x (x .d) (x .accumulator .low) cleared
+
 -- ---- exceptions
 
 -- "EPCR is the instruction's address, or its jump's (PC − 4) in a slot"
@@ -110,6 +129,7 @@ raises x place v sr cause eear = record {
   flow = record { pc = x .flow .pc; delay = 0; target = 0 };
   link = noLink;
   mode = running;
+  accumulated = Kept;
   store = noStore;
   outcome = Raised (record { cause = cause; epcr = exceptionPC x cause; eear = eear; esr = sr });
 }
@@ -118,6 +138,6 @@ raises x place v sr cause eear = record {
 abbrev pub faults : Inputs → Cause → ℕ → Effect
 faults x cause eear = raises x 0 0 (x .sr) cause eear
 
--- "raise range after rD and flags are written"
-abbrev pub overflowing : Inputs → ℕ → ℕ → ℕ → Effect
-overflowing x place v sr = raises x place v sr Range (x .eear)
+-- range, once v went to place and SR became sr: "raise range after rD and flags are written"
+abbrev pub raisesRange : Inputs → ℕ → ℕ → ℕ → Effect
+raisesRange x place v sr = raises x place v sr Range (x .eear)

@@ -6,11 +6,11 @@ use lib.Dec.{eqb, leb}
 use Rattle.arith.specs.Status.{allowed}
 use Rattle.effect.specs.declared.types.Board.{Board}
 
--- "42 32-bit words for each of 1 to 4 cores. 0–31: r0–r31. 32: PC, the next instruction's address. 33: delay, 1 if that instruction is in a
+-- "32-bit words for each of 1 to 4 cores. 0–31: r0–r31. 32: PC, the next instruction's address. 33: delay, 1 if that instruction is in a
 -- delay slot, else 0. 34: target after the slot. 35: SR. 36: EPCR. 37: EEAR. 38: ESR. 39: link, 0 or 1. 40: link address. 41: mode, 0 halted
--- or 3 running."
+-- or 3 running." Document 02, note 2: "Sheets grow to 44 words, MACHI then MACLO last".
 abbrev pub stateWords : ℕ
-stateWords = 42
+stateWords = 44
 
 abbrev pub pcAt : ℕ
 pcAt = 32
@@ -42,6 +42,12 @@ linkAddressAt = 40
 abbrev pub modeAt : ℕ
 modeAt = 41
 
+abbrev pub machiAt : ℕ
+machiAt = 42
+
+abbrev pub macloAt : ℕ
+macloAt = 43
+
 abbrev pub halted : ℕ
 halted = 0
 
@@ -58,7 +64,8 @@ all (b ∷ l) = b && all l
 abbrev pub multiple : ℕ → Bool
 multiple x = eqb (x % 4) 0
 
--- the rules on the state of a core of a board, g being its word at each place, in the paper's order (the same for every core of every board)
+-- the rules on the state of a core of a board, g being its word at each place, in the paper's order (the same for every core of every board); MACHI
+-- and MACLO are free
 abbrev pub rules : Board → ℕ → (ℕ → ℕ) → List Bool
 rules board core g =
     leb (g delayAt) 1 ∷  -- "33: delay, 1 if that instruction is in a delay slot, else 0."

@@ -3,10 +3,11 @@ ghost use mathlib.Core.Path.{_≡_};
 ghost use Prim.Native.Nat.{_<_};
 ghost use Rattle.bits.specs.Word.{bit};
 ghost use Rattle.effect.specs.State.{running};
-ghost use Rattle.effect.specs.Effect.{noLink, noStore, inSlot, onward as onwardOf, completed, restart as restartOf, exceptionPC, raises, unlinking};
+ghost use Rattle.effect.specs.Effect.{noLink, noStore, inSlot, onward as onwardOf, completed, restart as restartOf, exceptionPC, raises, unlinking, accumulating};
 ghost use Rattle.effect.specs.Inner.{effectBy};
 ghost use Rattle.effect.specs.declared.types.Inputs.{Inputs};
 use crate::state;
+use crate::types::Accumulated;
 use crate::types::Action;
 use crate::types::Effect;
 use crate::types::Exception;
@@ -20,6 +21,7 @@ use crate::types::Outcome;
 use crate::types::Store;
 use crate::types::Written;
 use isa::vectors::Cause;
+use product::Accumulator;
 
 // The instruction is in a delay slot.
 pub fn in_slot(x: Inputs) -> bool
@@ -67,6 +69,7 @@ fn complete(
         flow,
         link,
         mode,
+        accumulated: Accumulated::Kept,
         store,
         outcome: Outcome::Completed,
     }
@@ -171,6 +174,32 @@ fn save_linked_effect(x: Inputs, t: bool, s: Store) -> Effect
     go_on(x, 0, 0, sr, no_link(), s)
 }
 
+// On to the next instruction, where MACHI and MACLO become m.
+fn accumulate_effect(x: Inputs, place: u32, value: u32, m: Accumulator) -> Effect
+    ensures { λ r. ⌜ r ≡ accumulating x place value m ⌝ }
+{
+    let link = x.link;
+    Effect {
+        place,
+        value,
+        sr: x.sr,
+        flow: onward(x),
+        link,
+        mode: state::RUNNING,
+        accumulated: Accumulated::Became(m),
+        store: no_store(),
+        outcome: Outcome::Completed,
+    }
+}
+
+// l.macrc: MACLO goes to rD, and both are cleared.
+fn read_accumulator_effect(x: Inputs) -> Effect
+    ensures { λ r. ⌜ r ≡ effectBy x Action.ReadAccumulator ⌝ }
+{
+    let cleared = Accumulator { high: 0, low: 0 };
+    accumulate_effect(x, x.d, x.accumulator.low, cleared)
+}
+
 // ---- exceptions
 
 // The address that EPCR keeps: in a slot, its jump's.
@@ -216,6 +245,7 @@ fn raise(x: Inputs, place: u32, value: u32, sr: u32, cause: Cause, eear: u32) ->
         },
         link: no_link(),
         mode: state::RUNNING,
+        accumulated: Accumulated::Kept,
         store: no_store(),
         outcome: Outcome::Raised(Exception {
             cause,
@@ -234,9 +264,9 @@ pub fn fault_effect(x: Inputs, f: Faulted) -> Effect
     raise(x, 0, 0, x.sr, cause, f.eear)
 }
 
-// Once rD and SR are written.
-fn overflow_effect(x: Inputs, w: Written) -> Effect
-    ensures { λ r. ⌜ r ≡ effectBy x (Action.Overflow w) ⌝ }
+// Range, once w is written.
+fn range_effect(x: Inputs, w: Written) -> Effect
+    ensures { λ r. ⌜ r ≡ effectBy x (Action.RaiseRange w) ⌝ }
 {
     raise(x, w.place, w.value, w.sr, Cause::Range, x.eear)
 }
@@ -251,12 +281,14 @@ pub fn effect_by(x: Inputs, action: Action) -> Effect
         Action::Jump(j) => jump_effect(x, j),
         Action::Save(s) => save_effect(x, s),
         Action::Fault(f) => fault_effect(x, f),
-        Action::Overflow(w) => overflow_effect(x, w),
+        Action::RaiseRange(w) => range_effect(x, w),
         Action::Return => return_effect(x),
         Action::Halt => halt_effect(x),
         Action::LoadLinked(l) => load_linked_effect(x, l),
         Action::SaveLinked(s) => save_linked_effect(x, true, s),
         Action::SaveUnlinked => save_linked_effect(x, false, no_store()),
+        Action::Accumulate(m) => accumulate_effect(x, 0, 0, m),
+        Action::ReadAccumulator => read_accumulator_effect(x),
     }
 }
 

@@ -1,5 +1,5 @@
 // A core's state (document 01's sheet): 32 registers, then these places.
-pub const STATE_WORDS: usize = 42;
+pub const STATE_WORDS: usize = 44;
 
 pub const PC: usize = 32;
 
@@ -20,6 +20,10 @@ pub const LINK: usize = 39;
 pub const LINK_ADDRESS: usize = 40;
 
 pub const MODE: usize = 41;
+
+pub const MACHI: usize = 42;
+
+pub const MACLO: usize = 43;
 
 // The modes.
 pub const HALTED: u32 = 0;

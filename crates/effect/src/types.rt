@@ -1,5 +1,6 @@
 // What an instruction reads and what it does, by value.
 use isa::vectors::Cause;
+use product::Accumulator;
 
 // Where execution goes on: the next instruction, whether it is in a delay slot, and where it goes after the slot.
 pub struct Flow {
@@ -28,6 +29,12 @@ pub struct Exception {
     pub esr: u32,
 }
 
+// What becomes of MACHI and MACLO.
+pub enum Accumulated {
+    Kept,
+    Became(Accumulator),
+}
+
 // How a step ends.
 pub enum Outcome {
     Completed,
@@ -52,9 +59,11 @@ pub struct Inputs {
     pub eear: u32,
     pub esr: u32,
     pub link: Link,
+    pub accumulator: Accumulator,
 }
 
-// What an instruction does: the one word of its state that it writes besides SR, the flow, the link and the mode; its store; how it ends.
+// What an instruction does: the one word of its state that it writes besides SR, the flow, the link, the mode and the accumulator; its store; how it
+// ends.
 pub struct Effect {
     pub place: u32,
     pub value: u32,
@@ -62,6 +71,7 @@ pub struct Effect {
     pub flow: Flow,
     pub link: Link,
     pub mode: u32,
+    pub accumulated: Accumulated,
     pub store: Store,
     pub outcome: Outcome,
 }
@@ -99,10 +109,12 @@ pub enum Action {
     Jump(Jumped),
     Save(Store),
     Fault(Faulted),
-    Overflow(Written),
+    RaiseRange(Written),
     Return,
     Halt,
     LoadLinked(Linked),
     SaveLinked(Store),
     SaveUnlinked,
+    Accumulate(Accumulator),
+    ReadAccumulator,
 }

@@ -53,7 +53,7 @@ again l x = record { memory = x .memory; states = x .states; schedule = [] }
 -- The fast run of l and cache answers r and leaves x and cache′. Demand 3: "both end with the same memory, the same sheets, the same count of
 -- instructions executed and the same count of exceptions raised"; "Afterwards each entry of the table and the reused count are exactly what
 -- document 01's history says, and the table is accepted again with that memory and those sheets." ("accepted again: the memory, sheets and
--- table left meet none that concerns them")
+-- table left meet none that concerns them") Document 02, note 2: "A run through the table matches the plain one over all 88 kinds."
 pub record FastAnswer (l : Lent) (cache : List ℕ) (x : Left) (cache′ : List ℕ) (r : Answer) : Type 0 where
   pub refusal : number r ≡ fastRefusal l cache
   pub left : plainOf x (countsOf r) ≡ unlessRefused (fastRefusal l cache) (plainRun l) (start l)

@@ -1,7 +1,7 @@
 // What an entry does to memory and its core's own state, by group of kinds. Each group reads its inputs itself, so that nothing is read that
 // its instructions do not use.
 ghost use Prim.Native.Nat.{_≤_, _<_};
-ghost use Rattle.isa.specs.Groups.{firstAddImmediate, firstStore, firstCompare};
+ghost use Rattle.isa.specs.Groups.{firstAddImmediate, firstStore, firstCompare, firstCache};
 ghost use Rattle.commit.specs.Inner.{OwnState};
 ghost use Rattle.exec.specs.Inner.{Performs};
 use commit::Done;
@@ -81,6 +81,21 @@ fn mid(board: Board, memory: &mut [u8], own: &mut [u32], core: usize, kind: u8, 
     }
 }
 
+// The cache instructions; products, quotients and the accumulator.
+fn top(board: Board, memory: &mut [u8], own: &mut [u32], core: usize, kind: u8, entry: u64) -> Done
+    requires { ⌜ OwnState (now own) core ⌝ }
+    requires { ⌜ firstCache ≤ kind ⌝ }
+    ensures { λ r. ⌜ Performs board (now (memory .entry)) (now (own .entry)) core kind entry (now (memory .exit)) (now (own .exit)) r ⌝ }
+{
+    if kind < groups::PRODUCT {
+        let action = semantics::cache(memory.len(), kind, inputs_at(own, core, entry));
+        commit::advance(memory, own, core, entry, action)
+    } else {
+        let action = semantics::product(kind, inputs_at(own, core, entry));
+        commit::advance(memory, own, core, entry, action)
+    }
+}
+
 // The kinds from the immediates on.
 fn high(board: Board, memory: &mut [u8], own: &mut [u32], core: usize, kind: u8, entry: u64) -> Done
     requires { ⌜ OwnState (now own) core ⌝ }
@@ -97,8 +112,7 @@ fn high(board: Board, memory: &mut [u8], own: &mut [u32], core: usize, kind: u8,
                 let w = semantics::compare(kind, inputs_at(own, core, entry));
                 commit::write(memory, own, core, entry, w)
             } else {
-                let action = semantics::cache(memory.len(), kind, inputs_at(own, core, entry));
-                commit::advance(memory, own, core, entry, action)
+                top(board, memory, own, core, kind, entry)
             }
         }
     }

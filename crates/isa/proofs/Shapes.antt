@@ -368,7 +368,3 @@ table-values f g ns e k h = table-from f g 0 ns e k h ∙ ap g (zero-add k)
 pub bare-words : (ws : List ℕ) → T (all-entries (λ k n. eqb n (wordFor (kindRow k) 0)) 0 ws) → (k : ℕ) → k < length ws →
     getD ws k 0 ≡ wordFor (kindRow k) 0
 bare-words ws t k h = eqb→eq (getD ws k 0) (wordFor (kindRow k) 0) (at-entry (λ k n. eqb n (wordFor (kindRow k) 0)) 0 ws t k h)
-
--- a table of numbers below m
-pub all-below : (m : ℕ) (ns : List ℕ) → T (all-entries (λ k n. ltb n m) 0 ns) → (k : ℕ) → k < length ns → getD ns k 0 < m
-all-below m ns t k h = ltb→lt (getD ns k 0) m (at-entry (λ k n. ltb n m) 0 ns t k h)

@@ -1,4 +1,4 @@
--- The groups of kinds: document 01's kinds, "Words and kinds", in its order, cut for the code: kinds of a group read the same and are carried out by one function.
+-- The groups of kinds: the kinds in their order (InstructionSet), cut for the code: the kinds of a group are carried out by one function.
 use Prim.Native.Nat.{ℕ, _≤_, _<_}
 
 -- the first kind of each group, in order
@@ -38,9 +38,12 @@ firstCompare = 67
 abbrev pub firstCache : ℕ
 firstCache = 77
 
--- 0, which is no kind, and 79 kinds
+abbrev pub firstProduct : ℕ
+firstProduct = 80
+
+-- 0, which is no kind, and 88 kinds
 abbrev pub kinds : ℕ
-kinds = 80
+kinds = 89
 
 abbrev Within : ℕ → ℕ → ℕ → Type 0
 Within low high k = (low ≤ k) × (k < high)
@@ -87,3 +90,7 @@ IsLogic = Within firstLogic firstCompare
 -- set flag of two registers
 abbrev pub IsCompare : ℕ → Type 0
 IsCompare = Within firstCompare firstCache
+
+-- the cache instructions
+abbrev pub IsCache : ℕ → Type 0
+IsCache = Within firstCache firstProduct

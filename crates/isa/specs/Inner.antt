@@ -1,10 +1,9 @@
 -- How the decoder and the encoder cut the instruction set into parts: the kind by a few bits, the shape of a kind, the place of the immediate.
--- Document 01's instruction set is InstructionSet.antt; that these parts are its is proved (proofs/Rows.antt, Shapes.antt).
+-- The instruction set itself is InstructionSet.antt; that these parts are its is proved (proofs/Rows.antt, Shapes.antt).
 use mathlib.Core.Bool.{Bool, true, false, _&&_}
 use mathlib.Core.List.{List, [], _∷_}
-use Prim.Native.Nat.{ℕ, _+_, _-_, _*_, _%_, _^_, _<_}
+use Prim.Native.Nat.{ℕ, _+_, _-_, _*_, _/_, _%_, _^_, _<_}
 use lib.Dec.{eqb, leb, ltb}
-use lib.ListN.{getD}
 use Rattle.bits.specs.Choice.{if_then_else_}
 use Rattle.bits.specs.Word.{field}
 use Rattle.isa.specs.InstructionSet as set
@@ -64,28 +63,23 @@ scattered Split n = field n 11 5 * 2 ^ 21 + n % 2 ^ 11
 abbrev pub shape : Bool → Bool → Bool → Place → Form → Shape
 shape d a b p f = record { d = d; a = a; b = b; place = p; form = f }
 
--- the layouts, by number
-unfoldable pub layouts : List Shape
-layouts =
-    shape false false false None Zext ∷
-    shape false false false Low26 Jump ∷
-    shape false false false Low16 Zext ∷
-    shape true false false Low16 Zext ∷
-    shape false false true None Zext ∷
-    shape true true false Low16 Sext ∷
-    shape true true false Low16 Zext ∷
-    shape true true false Low5 Zext ∷
-    shape false true false Low16 Sext ∷
-    shape false true true Split Zext ∷
-    shape false true true Split Sext ∷
-    shape true true true None Zext ∷
-    shape true true false None Zext ∷
-    shape false true true None Zext ∷
-    shape false true false Split Sext ∷
-    []
+-- the number of a layout: 1 if it has D, 2 if A, 4 if B; 8 times its immediate's place; 64 times its form
+abbrev pub placeAt : ℕ → Place
+placeAt n =
+    if eqb n 0 then None else
+    if eqb n 1 then Low5 else
+    if eqb n 2 then Low16 else
+    if eqb n 3 then Low26 else
+    Split
+
+abbrev pub formAt : ℕ → Form
+formAt n =
+    if eqb n 0 then Zext else
+    if eqb n 1 then Sext else
+    Jump
 
 abbrev pub shapeOf : ℕ → Shape
-shapeOf n = getD layouts n (shape false false false None Zext)
+shapeOf n = shape (eqb (n % 2) 1) (eqb (n / 2 % 2) 1) (eqb (n / 4 % 2) 1) (placeAt (n / 8 % 8)) (formAt (n / 64))
 
 -- the fields of a word of that shape, and the bits that an entry's fields take in it
 abbrev pub fieldsIn : Shape → ℕ → Fields

@@ -1,4 +1,4 @@
--- The instruction set: document 01, "Words and kinds", in its order (refusal 8 stands in Encoding).
+-- The instruction set: document 01, "Words and kinds", in its order, and document 02, note 2 (refusal 8 stands in Encoding).
 use mathlib.Core.Bool.{Bool, true, false, _&&_}
 use mathlib.Core.List.{List, [], _∷_}
 use Prim.Native.Nat.{ℕ, suc, _+_, _*_, _/_, _^_}
@@ -142,6 +142,17 @@ rows =
     row 77 0x3e sext "iiiii aaaaa ---01 iiiiiiiiiii" ∷  -- p.cinvalidate
     row 78 0x3e sext "iiiii aaaaa ---10 iiiiiiiiiii" ∷  -- p.cwriteback
     row 79 0x3e sext "iiiii aaaaa ---11 iiiiiiiiiii" ∷  -- p.cflush
+    -- "Kinds 80–88 are, in order, l.mul, l.muli, l.mulu, l.div, l.divu, l.maci, l.mac, l.msb and l.macrc. Document 001 gives the layouts of the first six.
+    -- l.mac and l.msb are opcode 31 with bits 3–0 1 and 2; l.macrc is opcode 06 with bit 16 set."
+    row 80 0x38 zext "ddddd aaaaa bbbbb - 11-- --0110" ∷  -- l.mul
+    row 81 0x2c sext "ddddd aaaaa iiiiiiiiiiiiiiii" ∷  -- l.muli
+    row 82 0x38 zext "ddddd aaaaa bbbbb - 11-- --1011" ∷  -- l.mulu
+    row 83 0x38 zext "ddddd aaaaa bbbbb - 11-- --1001" ∷  -- l.div
+    row 84 0x38 zext "ddddd aaaaa bbbbb - 11-- --1010" ∷  -- l.divu
+    row 85 0x13 sext "----- aaaaa iiiiiiiiiiiiiiii" ∷  -- l.maci
+    row 86 0x31 zext "----- aaaaa bbbbb ------- 0001" ∷  -- l.mac
+    row 87 0x31 zext "----- aaaaa bbbbb ------- 0010" ∷  -- l.msb
+    row 88 0x06 zext "ddddd ----1 ----------------" ∷  -- l.macrc
     []
 
 -- "Any word that no row fits [..] is kind 1 with zero fields." "The encoder writes [..] kind 1 as fc000000."

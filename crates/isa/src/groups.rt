@@ -21,5 +21,7 @@ pub const COMPARE: u8 = 67;
 
 pub const CACHE: u8 = 77;
 
-// 0, which is no kind, and 79 kinds.
-pub const KINDS: usize = 80;
+pub const PRODUCT: u8 = 80;
+
+// 0, which is no kind, and 88 kinds.
+pub const KINDS: usize = 89;

@@ -3,7 +3,7 @@ ghost use mathlib.Core.Path.{_≡_};
 ghost use Prim.Native.Nat.{_<_};
 ghost use Rattle.isa.specs.Groups.{kinds};
 ghost use Rattle.isa.specs.InstructionSet.{kindRow, wordFor};
-ghost use Rattle.isa.specs.Inner.{shape as shaped, shapeOf, shapeIn};
+ghost use Rattle.isa.specs.Inner.{placeAt, formAt, shapeOf, shapeIn};
 use crate::groups::KINDS;
 
 // Where a word has its immediate.
@@ -114,133 +114,171 @@ const WORDS: [u32; KINDS] = [
     0xf8000800, // 77 p.cinvalidate
     0xf8001000, // 78 p.cwriteback
     0xf8001800, // 79 p.cflush
+    0xe0000306, // 80 l.mul
+    0xb0000000, // 81 l.muli
+    0xe000030b, // 82 l.mulu
+    0xe0000309, // 83 l.div
+    0xe000030a, // 84 l.divu
+    0x4c000000, // 85 l.maci
+    0xc4000001, // 86 l.mac
+    0xc4000002, // 87 l.msb
+    0x18010000, // 88 l.macrc
 ];
 
-// By kind, the number of its layout.
+// A layout is one number: which registers a word has, where its immediate is and how an entry keeps it. (Nothing stands for no immediate, and nothing for a
+// zero-extended one.)
+const D: u8 = 1;
+
+const A: u8 = 2;
+
+const B: u8 = 4;
+
+const LOW5: u8 = 8;
+
+const LOW16: u8 = 16;
+
+const LOW26: u8 = 24;
+
+const SPLIT: u8 = 32;
+
+const SEXT: u8 = 64;
+
+const JUMP: u8 = 128;
+
+// By kind, its layout.
 const LAYOUTS: [u8; KINDS] = [
     0, // 0: no kind
     0, // 1 illegal
-    1, // 2 l.j
-    1, // 3 l.jal
-    1, // 4 l.bnf
-    1, // 5 l.bf
-    2, // 6 l.nop
-    3, // 7 l.movhi
-    2, // 8 l.sys
-    2, // 9 l.trap
+    LOW26 + JUMP, // 2 l.j
+    LOW26 + JUMP, // 3 l.jal
+    LOW26 + JUMP, // 4 l.bnf
+    LOW26 + JUMP, // 5 l.bf
+    LOW16, // 6 l.nop
+    D + LOW16, // 7 l.movhi
+    LOW16, // 8 l.sys
+    LOW16, // 9 l.trap
     0, // 10 l.msync
     0, // 11 l.psync
     0, // 12 l.csync
     0, // 13 l.rfe
-    4, // 14 l.jr
-    4, // 15 l.jalr
-    5, // 16 l.lwa
-    5, // 17 l.lwz
-    5, // 18 l.lws
-    5, // 19 l.lbz
-    5, // 20 l.lbs
-    5, // 21 l.lhz
-    5, // 22 l.lhs
-    5, // 23 l.addi
-    5, // 24 l.addic
-    6, // 25 l.andi
-    6, // 26 l.ori
-    5, // 27 l.xori
-    6, // 28 l.mfspr
-    7, // 29 l.slli
-    7, // 30 l.srli
-    7, // 31 l.srai
-    7, // 32 l.rori
-    8, // 33 l.sfeqi
-    8, // 34 l.sfnei
-    8, // 35 l.sfgtui
-    8, // 36 l.sfgeui
-    8, // 37 l.sfltui
-    8, // 38 l.sfleui
-    8, // 39 l.sfgtsi
-    8, // 40 l.sfgesi
-    8, // 41 l.sfltsi
-    8, // 42 l.sflesi
-    9, // 43 l.mtspr
-    10, // 44 l.swa
-    10, // 45 l.sw
-    10, // 46 l.sb
-    10, // 47 l.sh
-    11, // 48 l.add
-    11, // 49 l.addc
-    11, // 50 l.sub
-    11, // 51 l.and
-    11, // 52 l.or
-    11, // 53 l.xor
-    11, // 54 l.sll
-    11, // 55 l.srl
-    11, // 56 l.sra
-    11, // 57 l.ror
-    12, // 58 l.exths
-    12, // 59 l.extbs
-    12, // 60 l.exthz
-    12, // 61 l.extbz
-    12, // 62 l.extws
-    12, // 63 l.extwz
-    11, // 64 l.cmov
-    12, // 65 l.ff1
-    12, // 66 l.fl1
-    13, // 67 l.sfeq
-    13, // 68 l.sfne
-    13, // 69 l.sfgtu
-    13, // 70 l.sfgeu
-    13, // 71 l.sfltu
-    13, // 72 l.sfleu
-    13, // 73 l.sfgts
-    13, // 74 l.sfges
-    13, // 75 l.sflts
-    13, // 76 l.sfles
-    14, // 77 p.cinvalidate
-    14, // 78 p.cwriteback
-    14, // 79 p.cflush
+    B, // 14 l.jr
+    B, // 15 l.jalr
+    D + A + LOW16 + SEXT, // 16 l.lwa
+    D + A + LOW16 + SEXT, // 17 l.lwz
+    D + A + LOW16 + SEXT, // 18 l.lws
+    D + A + LOW16 + SEXT, // 19 l.lbz
+    D + A + LOW16 + SEXT, // 20 l.lbs
+    D + A + LOW16 + SEXT, // 21 l.lhz
+    D + A + LOW16 + SEXT, // 22 l.lhs
+    D + A + LOW16 + SEXT, // 23 l.addi
+    D + A + LOW16 + SEXT, // 24 l.addic
+    D + A + LOW16, // 25 l.andi
+    D + A + LOW16, // 26 l.ori
+    D + A + LOW16 + SEXT, // 27 l.xori
+    D + A + LOW16, // 28 l.mfspr
+    D + A + LOW5, // 29 l.slli
+    D + A + LOW5, // 30 l.srli
+    D + A + LOW5, // 31 l.srai
+    D + A + LOW5, // 32 l.rori
+    A + LOW16 + SEXT, // 33 l.sfeqi
+    A + LOW16 + SEXT, // 34 l.sfnei
+    A + LOW16 + SEXT, // 35 l.sfgtui
+    A + LOW16 + SEXT, // 36 l.sfgeui
+    A + LOW16 + SEXT, // 37 l.sfltui
+    A + LOW16 + SEXT, // 38 l.sfleui
+    A + LOW16 + SEXT, // 39 l.sfgtsi
+    A + LOW16 + SEXT, // 40 l.sfgesi
+    A + LOW16 + SEXT, // 41 l.sfltsi
+    A + LOW16 + SEXT, // 42 l.sflesi
+    A + B + SPLIT, // 43 l.mtspr
+    A + B + SPLIT + SEXT, // 44 l.swa
+    A + B + SPLIT + SEXT, // 45 l.sw
+    A + B + SPLIT + SEXT, // 46 l.sb
+    A + B + SPLIT + SEXT, // 47 l.sh
+    D + A + B, // 48 l.add
+    D + A + B, // 49 l.addc
+    D + A + B, // 50 l.sub
+    D + A + B, // 51 l.and
+    D + A + B, // 52 l.or
+    D + A + B, // 53 l.xor
+    D + A + B, // 54 l.sll
+    D + A + B, // 55 l.srl
+    D + A + B, // 56 l.sra
+    D + A + B, // 57 l.ror
+    D + A, // 58 l.exths
+    D + A, // 59 l.extbs
+    D + A, // 60 l.exthz
+    D + A, // 61 l.extbz
+    D + A, // 62 l.extws
+    D + A, // 63 l.extwz
+    D + A + B, // 64 l.cmov
+    D + A, // 65 l.ff1
+    D + A, // 66 l.fl1
+    A + B, // 67 l.sfeq
+    A + B, // 68 l.sfne
+    A + B, // 69 l.sfgtu
+    A + B, // 70 l.sfgeu
+    A + B, // 71 l.sfltu
+    A + B, // 72 l.sfleu
+    A + B, // 73 l.sfgts
+    A + B, // 74 l.sfges
+    A + B, // 75 l.sflts
+    A + B, // 76 l.sfles
+    A + SPLIT + SEXT, // 77 p.cinvalidate
+    A + SPLIT + SEXT, // 78 p.cwriteback
+    A + SPLIT + SEXT, // 79 p.cflush
+    D + A + B, // 80 l.mul
+    D + A + LOW16 + SEXT, // 81 l.muli
+    D + A + B, // 82 l.mulu
+    D + A + B, // 83 l.div
+    D + A + B, // 84 l.divu
+    A + LOW16 + SEXT, // 85 l.maci
+    A + B, // 86 l.mac
+    A + B, // 87 l.msb
+    D, // 88 l.macrc
 ];
 
-fn make(d: bool, a: bool, b: bool, place: Place, form: Form) -> Shape
-    ensures { λ r. ⌜ r ≡ shaped d a b place form ⌝ }
-{
-    Shape {
-        d,
-        a,
-        b,
-        place,
-        form,
-    }
-}
-
-fn layout(n: u8) -> Shape
-    requires { ⌜ n < 15 ⌝ }
-    ensures { λ r. ⌜ r ≡ shapeOf n ⌝ }
+fn place_at(n: u8) -> Place
+    ensures { λ r. ⌜ r ≡ placeAt n ⌝ }
 {
     match n {
-        1 => make(false, false, false, Place::Low26, Form::Jump),
-        2 => make(false, false, false, Place::Low16, Form::Zext),
-        3 => make(true, false, false, Place::Low16, Form::Zext),
-        4 => make(false, false, true, Place::None, Form::Zext),
-        5 => make(true, true, false, Place::Low16, Form::Sext),
-        6 => make(true, true, false, Place::Low16, Form::Zext),
-        7 => make(true, true, false, Place::Low5, Form::Zext),
-        8 => make(false, true, false, Place::Low16, Form::Sext),
-        9 => make(false, true, true, Place::Split, Form::Zext),
-        10 => make(false, true, true, Place::Split, Form::Sext),
-        11 => make(true, true, true, Place::None, Form::Zext),
-        12 => make(true, true, false, Place::None, Form::Zext),
-        13 => make(false, true, true, Place::None, Form::Zext),
-        14 => make(false, true, false, Place::Split, Form::Sext),
-        _ => make(false, false, false, Place::None, Form::Zext),
+        0 => Place::None,
+        1 => Place::Low5,
+        2 => Place::Low16,
+        3 => Place::Low26,
+        _ => Place::Split,
     }
 }
 
-// Which fields a word of kind k has.
-pub fn shape_of(k: u8) -> Shape
-    requires { ⌜ k < kinds ⌝ }
-    ensures { λ r. ⌜ r ≡ shapeIn (kindRow k) ⌝ }
+fn form_at(n: u8) -> Form
+    ensures { λ r. ⌜ r ≡ formAt n ⌝ }
 {
-    layout(LAYOUTS[k as usize])
+    match n {
+        0 => Form::Zext,
+        1 => Form::Sext,
+        _ => Form::Jump,
+    }
+}
+
+// What a layout says.
+pub fn shape_of(n: u8) -> Shape
+    ensures { λ r. ⌜ r ≡ shapeOf n ⌝ }
+{
+    Shape {
+        d: n % 2 == 1,
+        a: n / 2 % 2 == 1,
+        b: n / 4 % 2 == 1,
+        place: place_at(n / 8 % 8),
+        form: form_at(n / 64),
+    }
+}
+
+// The layout of kind k. It is read off by another function, so that each is small enough to be compiled into the decoder.
+pub fn layout_of(k: u8) -> u8
+    requires { ⌜ k < kinds ⌝ }
+    ensures { λ r. ⌜ shapeOf r ≡ shapeIn (kindRow k) ⌝ }
+{
+    LAYOUTS[k as usize]
 }
 
 // The word of kind k with every field 0.

@@ -1,7 +1,7 @@
 -- What an effect leaves in the states: its core's words read back, every other core's, and that accepted states stay accepted. Assumes nothing.
 use mathlib.Core.Bool.{Bool, true, false, _&&_}
 use mathlib.Core.List.{List, [], _∷_}
-use mathlib.Core.Path.{_≡_, refl, ap, _∙_}
+use mathlib.Core.Path.{_≡_, refl, sym, ap, _∙_}
 use Prim.Native.Nat.{ℕ, _+_, _*_, _<_, _≤_}
 use native.Mathlib.Omega.{arith}
 use lib.Dec.{T, eqb, ltb, ltb→lt}
@@ -12,13 +12,15 @@ use Rattle.bits.specs.Choice.{if_then_else_}
 use Rattle.bits.proofs.Tests.{and-left, and-right}
 use Rattle.bits.proofs.Cases.{if-law, if-both}
 use Rattle.isa.specs.Vectors.{vector}
-use Rattle.effect.specs.State.{stateWords, pcAt, delayAt, targetAt, srAt, epcrAt, eearAt, esrAt, linkAt, linkAddressAt, modeAt}
+use Rattle.effect.specs.State.{stateWords, pcAt, delayAt, targetAt, srAt, epcrAt, eearAt, esrAt, linkAt, linkAddressAt, modeAt, machiAt, macloAt}
 use Rattle.effect.specs.declared.types.Board.{Board}
+use Rattle.effect.specs.declared.types.Accumulated.{Accumulated}
+use Rattle.effect.specs.declared.types.Accumulated.the-variants.{Kept, Became}
 use Rattle.effect.specs.declared.types.Outcome.{Outcome}
 use Rattle.effect.specs.declared.types.Outcome.the-variants.{Completed, Raised}
 use Rattle.effect.specs.declared.types.Effect.{Effect}
-use Rattle.commit.specs.Commit.{wordAt, put, putValue, putFlow, putStatus, putException, ownState}
-use Rattle.lawful.specs.Inner.{Status, Multiple, LawfulState, LawfulWord, to-register, to-epcr, to-eear, to-esr, LawfulOutcome, completes, raised, Lawful}
+use Rattle.commit.specs.Commit.{wordAt, put, putValue, putFlow, putStatus, putAccumulated, putException, ownState}
+use Rattle.lawful.specs.Inner.{Status, Multiple, LawfulState, LawfulWord, to-register, to-epcr, to-eear, to-esr, to-machi, to-maclo, LawfulOutcome, completes, raised, Lawful}
 use Rattle.lawful.specs.Accepted.{Accepted}
 use Rattle.lawful.proofs.Lawful.{vector-multiple}
 
@@ -64,32 +66,49 @@ always e l =
     (pcAt, e .flow .pc) ∷ (delayAt, e .flow .delay) ∷ (targetAt, e .flow .target) ∷ (srAt, e .sr) ∷ (linkAt, e .link .held)
     ∷ (linkAddressAt, e .link .address) ∷ (modeAt, e .mode) ∷ l
 
+abbrev accumulations : Accumulated → List (ℕ × ℕ) → List (ℕ × ℕ)
+accumulations Kept l = l
+accumulations (Became m) l = (machiAt, m .high) ∷ (macloAt, m .low) ∷ l
+
 abbrev exceptional : Outcome → List (ℕ × ℕ)
 exceptional Completed = []
 exceptional (Raised x) = (pcAt, vector (x .cause)) ∷ (epcrAt, x .epcr) ∷ (eearAt, x .eear) ∷ (esrAt, x .esr) ∷ []
 
 -- what an effect puts there, after its value
-abbrev pub changes : Effect → Outcome → List (ℕ × ℕ)
-changes e o = always e (exceptional o)
+abbrev changes : Effect → Accumulated → Outcome → List (ℕ × ℕ)
+changes e a o = always e (accumulations a (exceptional o))
 
-changes-inside : (e : Effect) (o : Outcome) → T (inside (changes e o))
-changes-inside e Completed = tt
-changes-inside e (Raised x) = tt
+changes-inside : (e : Effect) (a : Accumulated) (o : Outcome) → T (inside (changes e a o))
+changes-inside e Kept Completed = tt
+changes-inside e Kept (Raised x) = tt
+changes-inside e (Became m) Completed = tt
+changes-inside e (Became m) (Raised x) = tt
 
-own-puts : (s : List ℕ) (core : ℕ) (e : Effect) → ownState s core e ≡ puts (changes e (e .outcome)) (putValue s core e) core
-unfolding ownState putStatus putFlow putException
-own-puts s core e = go (e .outcome)
+own-puts : (s : List ℕ) (core : ℕ) (e : Effect) → ownState s core e ≡ puts (changes e (e .accumulated) (e .outcome)) (putValue s core e) core
+unfolding ownState putStatus putFlow putAccumulated putException
+own-puts s core e = go (e .accumulated) (e .outcome)
   where
-    go : (o : Outcome) → putException o (putStatus (putFlow (putValue s core e) core e) core e) core ≡ puts (changes e o) (putValue s core e) core
-    go Completed = refl
-    go (Raised x) = refl
+    go : (a : Accumulated) (o : Outcome)
+        → putException o (putAccumulated a (putStatus (putFlow (putValue s core e) core e) core e) core) core ≡ puts (changes e a o) (putValue s core e) core
+    go Kept Completed = refl
+    go Kept (Raised x) = refl
+    go (Became m) Completed = refl
+    go (Became m) (Raised x) = refl
+
+-- the accumulator is seen at no other place
+unseen : (a : Accumulated) (l : List (ℕ × ℕ)) (j d : ℕ) → (j ≡ machiAt → ⊥) → (j ≡ macloAt → ⊥) → seen (accumulations a l) j d ≡ seen l j d
+unseen Kept l j d g h = refl
+unseen (Became m) l j d g h = ap (seen l j) kept
+  where
+    kept : (if eqb macloAt j then m .low else if eqb machiAt j then m .high else d) ≡ d
+    kept = rw (ne-eqb macloAt j (λ z. h (sym z)), ne-eqb machiAt j (λ z. g (sym z)))
 
 length-value : (s : List ℕ) (core : ℕ) (e : Effect) → length (putValue s core e) ≡ length s
 unfolding putValue
 length-value s core e = if-both (λ (t : List ℕ). length t ≡ length s) (eqb (e .place) 0) refl (simp length-set)
 
 pub length-own : (s : List ℕ) (core : ℕ) (e : Effect) → length (ownState s core e) ≡ length s
-length-own s core e = ap length (own-puts s core e) ∙ length-puts (changes e (e .outcome)) (putValue s core e) core ∙ length-value s core e
+length-own s core e = ap length (own-puts s core e) ∙ length-puts (changes e (e .accumulated) (e .outcome)) (putValue s core e) core ∙ length-value s core e
 
 -- another core's state
 pub own-other : (s : List ℕ) (core : ℕ) (e : Effect) (c j : ℕ) → e .place < stateWords → (c ≡ core → ⊥) → j < stateWords
@@ -97,25 +116,26 @@ pub own-other : (s : List ℕ) (core : ℕ) (e : Effect) (c j : ℕ) → e .plac
 unfolding putValue
 own-other s core e c j h n g =
     ap (λ (t : List ℕ). wordAt t c j) (own-puts s core e)
-    ∙ puts-other (changes e (e .outcome)) (putValue s core e) core c j (changes-inside e (e .outcome)) n g
+    ∙ puts-other (changes e (e .accumulated) (e .outcome)) (putValue s core e) core c j (changes-inside e (e .accumulated) (e .outcome)) n g
     ∙ if-both (λ (t : List ℕ). wordAt t c j ≡ wordAt s c j) (eqb (e .place) 0) refl
     (getD-set-other s (core * stateWords + e .place) (c * stateWords + j) (e .value) 0 (λ z. n (omega arith)))
 
 -- ---- an accepted state stays accepted
 
-pub lawful-same : {board : Board} {core : ℕ} (g h : ℕ → ℕ) → ((j : ℕ) → j < stateWords → h j ≡ g j) → LawfulState board core g
+-- no rule looks at MACHI and MACLO
+pub lawful-same : {board : Board} {core : ℕ} (g h : ℕ → ℕ) → ((j : ℕ) → j < stateWords → (j ≡ machiAt → ⊥) → (j ≡ macloAt → ⊥) → h j ≡ g j) → LawfulState board core g
     → LawfulState board core h
 lawful-same g h q a =
-    let r0 : h 0 ≡ g 0 = q 0 (omega arith) in
-    let r32 : h pcAt ≡ g pcAt = q pcAt (omega arith) in
-    let r33 : h delayAt ≡ g delayAt = q delayAt (omega arith) in
-    let r34 : h targetAt ≡ g targetAt = q targetAt (omega arith) in
-    let r35 : h srAt ≡ g srAt = q srAt (omega arith) in
-    let r36 : h epcrAt ≡ g epcrAt = q epcrAt (omega arith) in
-    let r38 : h esrAt ≡ g esrAt = q esrAt (omega arith) in
-    let r39 : h linkAt ≡ g linkAt = q linkAt (omega arith) in
-    let r40 : h linkAddressAt ≡ g linkAddressAt = q linkAddressAt (omega arith) in
-    let r41 : h modeAt ≡ g modeAt = q modeAt (omega arith) in
+    let r0 : h 0 ≡ g 0 = q 0 (omega arith) (λ z. omega arith) (λ z. omega arith) in
+    let r32 : h pcAt ≡ g pcAt = q pcAt (omega arith) (λ z. omega arith) (λ z. omega arith) in
+    let r33 : h delayAt ≡ g delayAt = q delayAt (omega arith) (λ z. omega arith) (λ z. omega arith) in
+    let r34 : h targetAt ≡ g targetAt = q targetAt (omega arith) (λ z. omega arith) (λ z. omega arith) in
+    let r35 : h srAt ≡ g srAt = q srAt (omega arith) (λ z. omega arith) (λ z. omega arith) in
+    let r36 : h epcrAt ≡ g epcrAt = q epcrAt (omega arith) (λ z. omega arith) (λ z. omega arith) in
+    let r38 : h esrAt ≡ g esrAt = q esrAt (omega arith) (λ z. omega arith) (λ z. omega arith) in
+    let r39 : h linkAt ≡ g linkAt = q linkAt (omega arith) (λ z. omega arith) (λ z. omega arith) in
+    let r40 : h linkAddressAt ≡ g linkAddressAt = q linkAddressAt (omega arith) (λ z. omega arith) (λ z. omega arith) in
+    let r41 : h modeAt ≡ g modeAt = q modeAt (omega arith) (λ z. omega arith) (λ z. omega arith) in
     record {
       zero-register = r0 ∙ a .zero-register;
       flow-lawful = rw (r32, r33, r34) (a .flow-lawful);
@@ -145,34 +165,35 @@ module _ {board : Board} (s : List ℕ) (core : ℕ) (fits : core * stateWords +
       other : (p v j : ℕ) → j < stateWords → (p ≡ j → ⊥) → wordAt (put s core p v) core j ≡ wordAt s core j
       other p v j h n = at p v j h ∙ rw (ne-eqb p j n)
 
-      go : {p v : ℕ} → LawfulWord p v → (p ≡ 0 → ⊥) → Value (wordAt (put s core p v) core)
-      go {p} {v} (to-register h) n =
+      -- a word elsewhere
+      untouched : (p v : ℕ) → (p ≡ 0 → ⊥) → (p ≡ epcrAt → ⊥) → (p ≡ esrAt → ⊥) → Value (wordAt (put s core p v) core)
+      untouched p v n e f =
           record {
             zero-kept = other p v 0 (omega arith) n ∙ a .zero-register;
-            epcr-kept = rw (other p v epcrAt (omega arith) (λ z. omega arith)) (a .epcr-lawful);
-            esr-kept = rw (other p v esrAt (omega arith) (λ z. omega arith)) (a .esr-lawful);
+            epcr-kept = rw (other p v epcrAt (omega arith) e) (a .epcr-lawful);
+            esr-kept = rw (other p v esrAt (omega arith) f) (a .esr-lawful);
           }
+
+      go : {p v : ℕ} → LawfulWord p v → (p ≡ 0 → ⊥) → Value (wordAt (put s core p v) core)
+      go {p} {v} (to-register h) n = untouched p v n (λ z. omega arith) (λ z. omega arith)
       go {p} {v} (to-epcr m) n =
           record {
             zero-kept = at epcrAt v 0 (omega arith) ∙ a .zero-register;
             epcr-kept = rw (at epcrAt v epcrAt (omega arith)) m;
             esr-kept = rw (at epcrAt v esrAt (omega arith)) (a .esr-lawful);
           }
-      go {p} {v} to-eear n =
-          record {
-            zero-kept = at eearAt v 0 (omega arith) ∙ a .zero-register;
-            epcr-kept = rw (at eearAt v epcrAt (omega arith)) (a .epcr-lawful);
-            esr-kept = rw (at eearAt v esrAt (omega arith)) (a .esr-lawful);
-          }
+      go {p} {v} to-eear n = untouched eearAt v n (λ z. omega arith) (λ z. omega arith)
       go {p} {v} (to-esr m) n =
           record {
             zero-kept = at esrAt v 0 (omega arith) ∙ a .zero-register;
             epcr-kept = rw (at esrAt v epcrAt (omega arith)) (a .epcr-lawful);
             esr-kept = rw (at esrAt v esrAt (omega arith)) m;
           }
+      go {p} {v} to-machi n = untouched machiAt v n (λ z. omega arith) (λ z. omega arith)
+      go {p} {v} to-maclo n = untouched macloAt v n (λ z. omega arith) (λ z. omega arith)
 
   changed : (e : Effect) → Lawful e → {o : Outcome} → LawfulOutcome o → (t : List ℕ) → Value (wordAt t core)
-      → LawfulState board core (λ j. seen (changes e o) j (wordAt t core j))
+      → LawfulState board core (λ j. seen (changes e Kept o) j (wordAt t core j))
   changed e l completes t v =
       record {
         zero-register = v .zero-kept;
@@ -204,6 +225,8 @@ module _ {board : Board} (s : List ℕ) (core : ℕ) (fits : core * stateWords +
   own-accepted e l =
       let t = putValue s core e in
       let n : length t ≡ length s = length-value s core e in
-      lawful-same (λ j. seen (changes e (e .outcome)) j (wordAt t core j)) (wordAt (ownState s core e) core)
-      (λ j h. ap (λ (u : List ℕ). wordAt u core j) (own-puts s core e) ∙ puts-seen (changes e (e .outcome)) t core j (omega arith))
+      lawful-same (λ j. seen (changes e Kept (e .outcome)) j (wordAt t core j)) (wordAt (ownState s core e) core)
+      (λ j h p q.
+      ap (λ (u : List ℕ). wordAt u core j) (own-puts s core e) ∙ puts-seen (changes e (e .accumulated) (e .outcome)) t core j (omega arith)
+      ∙ unseen (e .accumulated) (exceptional (e .outcome)) j _ p q)
       (changed e l (l .outcome-lawful) t (value-kept (e .place) (e .value) (l .word-lawful)))

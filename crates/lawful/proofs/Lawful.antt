@@ -15,23 +15,25 @@ use Rattle.isa.specs.declared.vectors.Cause.{Cause}
 use Rattle.isa.specs.declared.vectors.Cause.the-variants.{Bus, Alignment, Illegal, Range, Syscall, Trap}
 use Rattle.isa.specs.Groups.{IsBranch}
 use Rattle.arith.specs.Bit.{isSet}
-use Rattle.arith.specs.Status.{OVE, aligned}
+use Rattle.arith.specs.Status.{OVE, aligned, setCarryOverflow}
 use Rattle.arith.specs.Sums.{addressSum, addressDifference}
 use Rattle.arith.specs.declared.Flagged.{Flagged}
 use Rattle.arith.proofs.Integer.{by-sign, sub-sub, sub-zero}
 use Rattle.arith.proofs.Status.{allowed-flag, allowed-carry-overflow, allowed-exception, allowed-again, aligned-multiple}
 use Rattle.arith.proofs.Sums.{Ranged, bit-lt, address-sum-multiple}
 use Rattle.memory.proofs.Laws.{granted-aligned}
-use Rattle.effect.specs.State.{epcrAt, eearAt, esrAt}
-use Rattle.effect.specs.Effect.{completed, inSlot, onward, advances, restart, exceptionPC, raises, faults, jumping}
+use Rattle.product.specs.declared.Accumulator.{Accumulator}
+use Rattle.effect.specs.State.{epcrAt, eearAt, esrAt, machiAt, macloAt}
+use Rattle.effect.specs.Effect.{completing, inSlot, onward, advances, restart, exceptionPC, raises, faults, jumping, accumulating}
 use Rattle.effect.specs.declared.types.Inputs.{Inputs}
 use Rattle.effect.specs.declared.types.Board.{Board}
 use Rattle.effect.specs.declared.types.Flow.{Flow}
 use Rattle.effect.specs.declared.types.Link.{Link}
 use Rattle.effect.specs.declared.types.Store.{Store}
-use Rattle.action.specs.Operations.{nop, setsFlag, syscall, flags, sumsOrRaises, jump, branch, registerJump, returns, load, loadLinked, linked, store, storeConditional, touch, setsSpecialRegister}
+use Rattle.effect.specs.declared.types.Accumulated.{Accumulated}
+use Rattle.action.specs.Operations.{nop, setsFlag, syscall, flags, resultOrRaises, divides, jump, branch, registerJump, returns, load, loadLinked, linked, store, storeConditional, touch, setsSpecialRegister}
 use Rattle.semantics.specs.Meaning.{meaning}
-use Rattle.lawful.specs.Inner.{Status, Multiple, LawfulFlow, LawfulLink, Mode, is-halted, is-running, LawfulInputs, LawfulWord, to-register, to-epcr, to-eear, to-esr, completes, raised, Lawful}
+use Rattle.lawful.specs.Inner.{Status, Multiple, LawfulFlow, LawfulLink, Mode, is-halted, is-running, LawfulInputs, LawfulWord, to-register, to-epcr, to-eear, to-esr, to-machi, to-maclo, completes, raised, Lawful}
 use Rattle.lawful.proofs.Reaches.{reaches-law}
 use Rattle.lawful.proofs.Table.{meaning-has}
 
@@ -60,8 +62,8 @@ pub no-link-lawful : LawfulLink (record { held = 0; address = 0 })
 no-link-lawful = record { held-bit = omega arith; address-multiple = refl; no-address = λ _. refl }
 
 -- a completed instruction
-completed-lawful : {place v sr mode : ℕ} {flow : Flow} {link : Link} {store : Store} → LawfulWord place v → Status sr → LawfulFlow flow → LawfulLink link
-    → Mode mode → Lawful (completed place v sr flow link mode store)
+completed-lawful : {place v sr mode : ℕ} {flow : Flow} {link : Link} {a : Accumulated} {store : Store} → LawfulWord place v → Status sr → LawfulFlow flow
+    → LawfulLink link → Mode mode → Lawful (completing place v sr flow link mode a store)
 completed-lawful w s f l m =
     record { word-lawful = w; flow-lawful = f; link-lawful = l; sr-lawful = s; mode-lawful = m; outcome-lawful = completes }
 
@@ -132,12 +134,27 @@ module _ (x : Inputs) (i : LawfulInputs x) where
   flags-lawful : (f : Flagged) → Ranged f → Status (flags x f)
   flags-lawful f r = allowed-carry-overflow (x .sr) (i .sr-lawful) (f .carry) (f .overflow) (r .carry-lt) (r .overflow-lt)
 
-  pub sums-lawful : (f : Flagged) → Ranged f → Lawful (sumsOrRaises x f)
-  unfolding sumsOrRaises
-  sums-lawful f r =
+  pub result-lawful : (f : Flagged) → Ranged f → Lawful (resultOrRaises x f)
+  unfolding resultOrRaises
+  result-lawful f r =
       if-both Lawful (isSet OVE (x .sr) && eqb (f .overflow) 1)
       (raises-lawful (x .d) (f .value) _ _ _ (to-register (i .register)) (flags-lawful f r))
       (advances-lawful (x .d) (f .value) _ (to-register (i .register)) (flags-lawful f r))
+
+  divide-flags-lawful : (cy : ℕ) → cy < 2 → Status (setCarryOverflow cy 0 (x .sr))
+  divide-flags-lawful cy h = allowed-carry-overflow (x .sr) (i .sr-lawful) cy 0 h (omega arith)
+
+  pub divides-lawful : (q : ℕ) → Lawful (divides x q)
+  unfolding divides
+  divides-lawful q =
+      if-both Lawful (eqb (x .b) 0)
+      (if-both Lawful (isSet OVE (x .sr))
+      (raises-lawful 0 0 _ _ _ (to-register (omega arith)) (divide-flags-lawful 1 (omega arith)))
+      (advances-lawful 0 0 _ (to-register (omega arith)) (divide-flags-lawful 1 (omega arith))))
+      (advances-lawful (x .d) q _ (to-register (i .register)) (divide-flags-lawful 0 (omega arith)))
+
+  pub accumulating-lawful : (place v : ℕ) → place < 32 → (m : Accumulator) → Lawful (accumulating x place v m)
+  accumulating-lawful place v h m = completed-lawful (to-register h) (i .sr-lawful) onward-lawful (i .link-lawful) is-running
 
   jumping-lawful : (place v to : ℕ) → place < 32 → Multiple to → Lawful (jumping x place v to)
   jumping-lawful place v to h m =
@@ -208,7 +225,9 @@ module _ (x : Inputs) (i : LawfulInputs x) where
       if-both Lawful (eqb n 32) (advances-lawful epcrAt (aligned v) _ (to-epcr (aligned-multiple v)) (i .sr-lawful)) (
       if-both Lawful (eqb n 48) (advances-lawful eearAt v _ to-eear (i .sr-lawful)) (
       if-both Lawful (eqb n 64) (advances-lawful esrAt _ _ (to-esr (allowed-again v)) (i .sr-lawful)) (
-      nothing-lawful))))
+      if-both Lawful (eqb n 0x2801) (advances-lawful macloAt v _ to-maclo (i .sr-lawful)) (
+      if-both Lawful (eqb n 0x2802) (advances-lawful machiAt v _ to-machi (i .sr-lawful)) (
+      nothing-lawful))))))
 
   -- ---- every instruction: a jump or branch by its immediate needs a multiple of 4
 
@@ -223,7 +242,10 @@ module _ (x : Inputs) (i : LawfulInputs x) where
         of-illegal = faults-lawful _ _;
         of-trap = faults-lawful _ _;
         of-syscall = syscall-lawful;
-        of-sums = sums-lawful;
+        of-result = result-lawful;
+        of-divides = divides-lawful;
+        of-accumulates = accumulating-lawful 0 0 (omega arith);
+        of-reads-accumulator = accumulating-lawful (x .d) _ (i .register) _;
         of-jump = λ j place v h. jump-lawful place v _ h (next-multiple (x .immediate) j);
         of-branch = branch-lawful;
         of-register-jump = register-jump-lawful;

@@ -15,11 +15,12 @@ use Rattle.arith.specs.Status.{OVE}
 use Rattle.arith.specs.declared.Flagged.{Flagged}
 use Rattle.memory.specs.Memory.{Width, word-wide, access}
 use Rattle.memory.proofs.Laws.{granted-inside, granted-in-word}
-use Rattle.effect.specs.State.{stateWords, epcrAt, eearAt, esrAt}
-use Rattle.effect.specs.Effect.{inSlot, advances, raises, faults}
+use Rattle.product.specs.declared.Accumulator.{Accumulator}
+use Rattle.effect.specs.State.{stateWords, epcrAt, eearAt, esrAt, machiAt, macloAt}
+use Rattle.effect.specs.Effect.{inSlot, advances, raises, faults, accumulating}
 use Rattle.effect.specs.declared.types.Inputs.{Inputs}
 use Rattle.effect.specs.declared.types.Board.{Board}
-use Rattle.action.specs.Operations.{nop, setsFlag, syscall, sumsOrRaises, jump, branch, registerJump, returns, load, loadLinked, storing, store, linked, storeConditional, touch, setsSpecialRegister, effectiveAddress}
+use Rattle.action.specs.Operations.{nop, setsFlag, syscall, resultOrRaises, divides, jump, branch, registerJump, returns, load, loadLinked, storing, store, linked, storeConditional, touch, setsSpecialRegister, effectiveAddress}
 use Rattle.semantics.specs.Meaning.{meaning}
 use Rattle.lawful.specs.Inner.{Sound, InWord, SoundStore, none, some}
 use Rattle.lawful.proofs.Reaches.{reaches-law}
@@ -98,15 +99,27 @@ module _ (len : ℕ) (x : Inputs) where
       if-both (Sound len) (eqb n 32) (advances-sound epcrAt _ _ (omega arith)) (
       if-both (Sound len) (eqb n 48) (advances-sound eearAt v _ (omega arith)) (
       if-both (Sound len) (eqb n 64) (advances-sound esrAt _ _ (omega arith)) (
-      advances-sound 0 0 _ (omega arith)))))
+      if-both (Sound len) (eqb n 0x2801) (advances-sound macloAt v _ (omega arith)) (
+      if-both (Sound len) (eqb n 0x2802) (advances-sound machiAt v _ (omega arith)) (
+      advances-sound 0 0 _ (omega arith)))))))
+
+  pub accumulating-sound : (place v : ℕ) → place < stateWords → (m : Accumulator) → Sound len (accumulating x place v m)
+  accumulating-sound place v h m = record { place-lt = h; sound-store = none refl }
 
   -- the destination is a register
   module _ (d : x .d < 32) where
-    pub sums-sound : (f : Flagged) → Sound len (sumsOrRaises x f)
-    unfolding sumsOrRaises
-    sums-sound f =
+    pub result-sound : (f : Flagged) → Sound len (resultOrRaises x f)
+    unfolding resultOrRaises
+    result-sound f =
         if-both (Sound len) (isSet OVE (x .sr) && eqb (f .overflow) 1) (raises-sound (x .d) (f .value) _ _ _ (omega arith))
         (advances-sound (x .d) (f .value) _ (omega arith))
+
+    pub divides-sound : (q : ℕ) → Sound len (divides x q)
+    unfolding divides
+    divides-sound q =
+        if-both (Sound len) (eqb (x .b) 0)
+        (if-both (Sound len) (isSet OVE (x .sr)) (raises-sound 0 0 _ _ _ (omega arith)) (advances-sound 0 0 _ (omega arith)))
+        (advances-sound (x .d) q _ (omega arith))
 
     pub load-sound : (mem : List ℕ) (n : ℕ) (sign : Bool) → Sound len (load x mem n sign)
     unfolding load
@@ -129,7 +142,10 @@ sound-lines mem x d =
       of-illegal = faults-sound len x _ _;
       of-trap = faults-sound len x _ _;
       of-syscall = syscall-sound len x;
-      of-sums = λ f _. sums-sound len x d f;
+      of-result = λ f _. result-sound len x d f;
+      of-divides = divides-sound len x d;
+      of-accumulates = accumulating-sound len x 0 0 (omega arith);
+      of-reads-accumulator = accumulating-sound len x (x .d) _ (omega arith) _;
       of-jump = λ _ place v h. jump-sound len x place v _ (omega arith);
       of-branch = λ _ taken. branch-sound len x taken;
       of-register-jump = λ place v h. register-jump-sound len x place v (omega arith);

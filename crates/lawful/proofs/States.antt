@@ -13,7 +13,7 @@ use Rattle.effect.specs.declared.types.Link.{Link}
 use Rattle.effect.specs.declared.types.Effect.{Effect}
 use Rattle.effect.specs.declared.types.Board.{Board}
 use Rattle.commit.specs.Commit.{wordAt, coreCount, ownState, clearLinks, writesMemory, touched, statesAfter}
-use Rattle.lawful.specs.Inner.{LawfulWord, to-register, to-epcr, to-eear, to-esr, Lawful}
+use Rattle.lawful.specs.Inner.{LawfulWord, to-register, to-epcr, to-eear, to-esr, to-machi, to-maclo, Lawful}
 use Rattle.lawful.specs.Accepted.{AllAccepted}
 use Rattle.lawful.proofs.Commit.{length-own, own-other, own-accepted, lawful-same}
 use Rattle.lawful.proofs.Links.{linkOf, linkedTo, length-clears, clears-rest, clears-link, clears-accepted}
@@ -24,6 +24,8 @@ lawful-place (to-register h) = omega arith
 lawful-place (to-epcr m) = omega arith
 lawful-place to-eear = omega arith
 lawful-place (to-esr m) = omega arith
+lawful-place to-machi = omega arith
+lawful-place to-maclo = omega arith
 
 module _ (s : List ℕ) (core : ℕ) (e : Effect) where
   pub length-states : length (statesAfter s core e) ≡ length s
@@ -73,4 +75,4 @@ module _ (s : List ℕ) (core : ℕ) (e : Effect) where
           let n : length (ownState s core e) ≡ length s = length-own s core e in
           by-equality c core (λ q. rw q (own-accepted s core (omega arith) (a core h) e l))
           (λ q.
-          lawful-same (wordAt s c) (wordAt (ownState s core e) c) (λ j g. own-other s core e c j (lawful-place (l .word-lawful)) q g) (a c (omega arith)))
+          lawful-same (wordAt s c) (wordAt (ownState s core e) c) (λ j g _ _. own-other s core e c j (lawful-place (l .word-lawful)) q g) (a c (omega arith)))

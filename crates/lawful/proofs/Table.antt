@@ -9,16 +9,18 @@ use lib.ListN.{length}
 use borrow.Author.Tests.{eqb-true}
 use Rattle.bits.specs.Word.{bitAt}
 use Rattle.bits.proofs.Cases.{if-law, if-both}
-use Rattle.isa.specs.Groups.{firstNopMovhi, firstControl, firstLoad, firstAddImmediate, firstImmediate, firstCompareImmediate, firstStore, firstArithmetic, firstLogic, firstCompare, firstCache, IsBranch}
+use Rattle.isa.specs.Groups.{firstNopMovhi, firstControl, firstLoad, firstAddImmediate, firstImmediate, firstCompareImmediate, firstStore, firstArithmetic, firstLogic, firstCompare, firstCache, firstProduct, IsBranch}
 use Rattle.arith.specs.Status.{CY}
 use Rattle.arith.specs.declared.Flagged.{Flagged}
 use Rattle.arith.proofs.Sums.{Ranged, sum-ranged, difference-ranged}
+use Rattle.product.specs.declared.Accumulator.{Accumulator}
+use Rattle.product.proofs.Products.{product-ranged, product-unsigned-ranged}
 use Rattle.memory.specs.Memory.{Width, byte-wide, half-wide, word-wide}
 use Rattle.effect.specs.declared.types.Inputs.{Inputs}
 use Rattle.effect.specs.declared.types.Board.{Board}
 use Rattle.effect.specs.declared.types.Effect.{Effect}
-use Rattle.action.specs.Operations.{writes, nothing, setsFlag, nop, illegal, trap, syscall, sumsOrRaises, jump, relative, branch, registerJump, returns, load, loadLinked, store, storeConditional, touch, setsSpecialRegister}
-use Rattle.semantics.specs.Meaning.{branches, nopMovhi, control, loads, addImmediates, immediates, stores, arithmetic, logic, caches, meaning}
+use Rattle.action.specs.Operations.{writes, nothing, setsFlag, nop, illegal, trap, syscall, resultOrRaises, divides, accumulates, readsAccumulator, jump, relative, branch, registerJump, returns, load, loadLinked, store, storeConditional, touch, setsSpecialRegister}
+use Rattle.semantics.specs.Meaning.{branches, nopMovhi, control, loads, addImmediates, immediates, stores, arithmetic, logic, caches, products, meaning}
 
 -- P holds of every effect that a line of the table may be; J is what a jump or branch by its immediate needs
 pub record Lines (P : Effect → Type 0) (J : Type 0) (mem : List ℕ) (x : Inputs) : Type 0 where
@@ -29,7 +31,10 @@ pub record Lines (P : Effect → Type 0) (J : Type 0) (mem : List ℕ) (x : Inpu
   pub of-illegal : P (illegal x)
   pub of-trap : P (trap x)
   pub of-syscall : P (syscall x)
-  pub of-sums : (f : Flagged) → Ranged f → P (sumsOrRaises x f)
+  pub of-result : (f : Flagged) → Ranged f → P (resultOrRaises x f)
+  pub of-divides : (q : ℕ) → P (divides x q)
+  pub of-accumulates : (m : Accumulator) → P (accumulates x m)
+  pub of-reads-accumulator : P (readsAccumulator x)
   pub of-jump : J → (place v : ℕ) → place < 32 → P (jump x place v (relative x))
   pub of-branch : J → (taken : Bool) → P (branch x taken)
   pub of-register-jump : (place v : ℕ) → place < 32 → P (registerJump x place v)
@@ -86,8 +91,8 @@ module _ (P : Effect → Type 0) (J : Type 0) (board : Board) (mem : List ℕ) (
   add-immediates-have : (k : ℕ) → P (addImmediates k x)
   unfolding addImmediates
   add-immediates-have k =
-      if-both P (eqb k 23) (l .of-sums _ (sum-ranged (x .a) (x .immediate) 0)) (
-      if-both P (eqb k 24) (l .of-sums _ (sum-ranged (x .a) (x .immediate) (bitAt CY (x .sr)))) (
+      if-both P (eqb k 23) (l .of-result _ (sum-ranged (x .a) (x .immediate) 0)) (
+      if-both P (eqb k 24) (l .of-result _ (sum-ranged (x .a) (x .immediate) (bitAt CY (x .sr)))) (
       l .of-illegal))
 
   immediates-have : (k : ℕ) → P (immediates board k x)
@@ -116,9 +121,9 @@ module _ (P : Effect → Type 0) (J : Type 0) (board : Board) (mem : List ℕ) (
   arithmetic-have : (k : ℕ) → P (arithmetic k x)
   unfolding arithmetic
   arithmetic-have k =
-      if-both P (eqb k 48) (l .of-sums _ (sum-ranged (x .a) (x .b) 0)) (
-      if-both P (eqb k 49) (l .of-sums _ (sum-ranged (x .a) (x .b) (bitAt CY (x .sr)))) (
-      if-both P (eqb k 50) (l .of-sums _ (difference-ranged (x .a) (x .b))) (
+      if-both P (eqb k 48) (l .of-result _ (sum-ranged (x .a) (x .b) 0)) (
+      if-both P (eqb k 49) (l .of-result _ (sum-ranged (x .a) (x .b) (bitAt CY (x .sr)))) (
+      if-both P (eqb k 50) (l .of-result _ (difference-ranged (x .a) (x .b))) (
       l .of-illegal)))
 
   logic-have : (k : ℕ) → P (logic k x)
@@ -150,6 +155,20 @@ module _ (P : Effect → Type 0) (J : Type 0) (board : Board) (mem : List ℕ) (
       if-both P (eqb k 79) (l .of-touch) (
       l .of-illegal)))
 
+  products-have : (k : ℕ) → P (products k x)
+  unfolding products
+  products-have k =
+      if-both P (eqb k 80) (l .of-result _ (product-ranged (x .a) (x .b))) (
+      if-both P (eqb k 81) (l .of-result _ (product-ranged (x .a) (x .immediate))) (
+      if-both P (eqb k 82) (l .of-result _ (product-unsigned-ranged (x .a) (x .b))) (
+      if-both P (eqb k 83) (l .of-divides _) (
+      if-both P (eqb k 84) (l .of-divides _) (
+      if-both P (eqb k 85) (l .of-accumulates _) (
+      if-both P (eqb k 86) (l .of-accumulates _) (
+      if-both P (eqb k 87) (l .of-accumulates _) (
+      if-both P (eqb k 88) (l .of-reads-accumulator) (
+      l .of-illegal)))))))))
+
   pub meaning-has : (k : ℕ) → (IsBranch k → J) → P (meaning board mem k x)
   unfolding meaning
   meaning-has k j =
@@ -164,4 +183,5 @@ module _ (P : Effect → Type 0) (J : Type 0) (board : Board) (mem : List ℕ) (
       if-both P (ltb k firstLogic) (arithmetic-have k) (
       if-both P (ltb k firstCompare) (logic-have k) (
       if-both P (ltb k firstCache) (l .of-flag _) (
-      caches-have k)))))))))))
+      if-both P (ltb k firstProduct) (caches-have k) (
+      products-have k))))))))))))

@@ -4,7 +4,7 @@ use mathlib.Core.Path.{_≡_}
 use Prim.Native.Nat.{ℕ, _+_, _%_, _<_, _≤_}
 use Rattle.arith.specs.Status.{allowed}
 use Rattle.memory.specs.Memory.{Width}
-use Rattle.effect.specs.State.{stateWords, pcAt, delayAt, targetAt, srAt, epcrAt, eearAt, esrAt, linkAt, linkAddressAt, modeAt, halted, running}
+use Rattle.effect.specs.State.{stateWords, pcAt, delayAt, targetAt, srAt, epcrAt, eearAt, esrAt, linkAt, linkAddressAt, modeAt, machiAt, macloAt, halted, running}
 use Rattle.effect.specs.declared.types.Inputs.{Inputs}
 use Rattle.effect.specs.declared.types.Board.{Board}
 use Rattle.effect.specs.declared.types.Flow.{Flow}
@@ -60,12 +60,14 @@ pub record LawfulInputs (x : Inputs) : Type 0 where
   pub epcr-lawful : Multiple (x .epcr)
   pub esr-lawful : Status (x .esr)
 
--- the word that an effect writes at a place: a register, EPCR, EEAR or ESR
+-- the word that an effect writes at a place: a register, EPCR, EEAR, ESR, or MACHI or MACLO, which are free
 pub data LawfulWord : ℕ → ℕ → Type 0 where
   to-register : {place v : ℕ} → place < 32 → LawfulWord place v
   to-epcr : {v : ℕ} → Multiple v → LawfulWord epcrAt v
   to-eear : {v : ℕ} → LawfulWord eearAt v
   to-esr : {v : ℕ} → Status v → LawfulWord esrAt v
+  to-machi : {v : ℕ} → LawfulWord machiAt v
+  to-maclo : {v : ℕ} → LawfulWord macloAt v
 
 pub data LawfulOutcome : Outcome → Type 0 where
   completes : LawfulOutcome Completed

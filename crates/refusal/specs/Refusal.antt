@@ -30,7 +30,7 @@ everyFrom f i (x ∷ l) = f i x && everyFrom f (i + 1) l
 unfoldable pub memoryFits : ℕ → Bool
 memoryFits len = leb 4096 len && (leb len 1048576 && eqb (len % 4) 0)
 
--- "Sheets: 42 32-bit words for each of 1 to 4 cores."
+-- "32-bit words for each of 1 to 4 cores." Document 02, note 2: "Sheets grow to 44 words".
 unfoldable pub statesFit : ℕ → Bool
 statesFit len = eqb (len % stateWords) 0 && (leb 1 (len / stateWords) && leb (len / stateWords) 4)
 

@@ -8,12 +8,12 @@ use lib.Dec.{T, leb, leb→le}
 use lib.ListN.{length}
 use borrow.Author.Tests.{lt-ltb, le-ltb}
 use Rattle.bits.proofs.Tests.{NoneOf, and-left, and-right}
-use Rattle.isa.specs.Groups.{firstBranch, firstNopMovhi, firstControl, firstLoad, firstAddImmediate, firstImmediate, firstCompareImmediate, firstStore, firstArithmetic, firstLogic, firstCompare, firstCache, IsNopMovhi, IsControl, IsLoad, IsAddImmediate, IsImmediate, IsCompareImmediate, IsStore, IsArithmetic, IsLogic, IsCompare}
+use Rattle.isa.specs.Groups.{firstBranch, firstNopMovhi, firstControl, firstLoad, firstAddImmediate, firstImmediate, firstCompareImmediate, firstStore, firstArithmetic, firstLogic, firstCompare, firstCache, firstProduct, IsNopMovhi, IsControl, IsLoad, IsAddImmediate, IsImmediate, IsCompareImmediate, IsStore, IsArithmetic, IsLogic, IsCompare, IsCache}
 use Rattle.effect.specs.declared.types.Inputs.{Inputs}
 use Rattle.effect.specs.declared.types.Board.{Board}
 use Rattle.effect.specs.declared.types.Effect.{Effect}
 use Rattle.action.specs.Operations.{illegal}
-use Rattle.semantics.specs.Meaning.{branches, nopMovhi, control, loads, addImmediates, immediates, stores, arithmetic, logic, compares, caches, groups, grouped, meaning}
+use Rattle.semantics.specs.Meaning.{branches, nopMovhi, control, loads, addImmediates, immediates, stores, arithmetic, logic, compares, caches, products, groups, grouped, meaning}
 
 -- ---- the keys of a match on a group: n numbers from low up, in the shape that the match leaves
 
@@ -62,7 +62,7 @@ grouped-at k low l e (g ∷ gs) (suc i) t h =
 
 module _ (board : Board) (mem : List ℕ) (k : ℕ) (x : Inputs) where
   abbrev last : Effect
-  last = caches (length mem) k x
+  last = products k x
 
   at : (i low : ℕ) → T (ended low (groups board mem k x) i) → low ≤ k → Ends (groups board mem k x) i k → nth (groups board mem k x) i last ≡ meaning board mem k x
   unfolding meaning
@@ -101,5 +101,8 @@ module _ (board : Board) (mem : List ℕ) (k : ℕ) (x : Inputs) where
   pub is-compare : IsCompare k → compares (k - firstCompare) x (x .b) ≡ meaning board mem k x
   is-compare h = at 10 firstCompare tt (h .0) (h .1)
 
-  pub is-cache : firstCache ≤ k → caches (length mem) k x ≡ meaning board mem k x
-  is-cache h = at 11 firstCache tt h tt
+  pub is-cache : IsCache k → caches (length mem) k x ≡ meaning board mem k x
+  is-cache h = at 11 firstCache tt (h .0) (h .1)
+
+  pub is-product : firstProduct ≤ k → products k x ≡ meaning board mem k x
+  is-product h = at 12 firstProduct tt h tt

@@ -5,7 +5,7 @@ use Prim.Native.Nat.{ℕ}
 use Rattle.effect.specs.Effect.{onward, advances, restart, raises}
 use Rattle.effect.specs.declared.types.Inputs.{Inputs}
 use Rattle.effect.specs.declared.types.Board.{Board}
-use Rattle.action.specs.Operations.{sumsOrRaises}
+use Rattle.action.specs.Operations.{resultOrRaises}
 use Rattle.semantics.specs.Meaning.{addImmediates, arithmetic, meaning}
 
 -- what is read, with the immediate in rB's place
@@ -22,13 +22,14 @@ immediateAsB x = record {
   eear = x .eear;
   esr = x .esr;
   link = x .link;
+  accumulator = x .accumulator;
 }
 
 module _ (board : Board) (mem : List ℕ) (x : Inputs) where
   pub addi-as-add : meaning board mem 23 x ≡ meaning board mem 48 (immediateAsB x)
-  unfolding meaning addImmediates arithmetic sumsOrRaises advances onward raises restart
+  unfolding meaning addImmediates arithmetic resultOrRaises advances onward raises restart
   addi-as-add = refl
 
   pub addic-as-addc : meaning board mem 24 x ≡ meaning board mem 49 (immediateAsB x)
-  unfolding meaning addImmediates arithmetic sumsOrRaises advances onward raises restart
+  unfolding meaning addImmediates arithmetic resultOrRaises advances onward raises restart
   addic-as-addc = refl

@@ -1,4 +1,4 @@
--- What each kind does, a line a kind, in the order of document 01's "Words and kinds", by the groups of isa/specs/Groups.antt. k is the kind, x what the
+-- What each kind does, a line a kind, in the order of document 01's "Words and kinds" and document 02's note 2, by the groups of isa/specs/Groups.antt. k is the kind, x what the
 -- instruction reads.
 use mathlib.Core.Bool.{true, false, not}
 use mathlib.Core.List.{List, [], _∷_}
@@ -9,17 +9,19 @@ use lib.ListN.{length}
 use Rattle.bits.specs.Choice.{if_then_else_}
 use Rattle.bits.specs.Word.{bitAt, extend}
 use Rattle.isa.specs.Entry.{kindOfEntry, fieldsOf}
-use Rattle.isa.specs.Groups.{firstNopMovhi, firstControl, firstLoad, firstAddImmediate, firstImmediate, firstCompareImmediate, firstStore, firstArithmetic, firstLogic, firstCompare, firstCache}
+use Rattle.isa.specs.Groups.{firstNopMovhi, firstControl, firstLoad, firstAddImmediate, firstImmediate, firstCompareImmediate, firstStore, firstArithmetic, firstLogic, firstCompare, firstCache, firstProduct}
 use Rattle.arith.specs.Bit.{isSet}
 use Rattle.arith.specs.Status.{F, CY}
 use Rattle.arith.specs.Sums.{sum, difference}
 use Rattle.arith.specs.Compare.{holds}
 use Rattle.arith.specs.Shift.{shiftLeft, shiftRight, shiftRightSigned, rotateRight, highHalf}
 use Rattle.arith.specs.Place.{least, greatest}
+use Rattle.product.specs.Product.{product, productUnsigned, quotient, quotientUnsigned}
+use Rattle.product.specs.Accumulate.{added, subtracted}
 use Rattle.effect.specs.declared.types.Inputs.{Inputs}
 use Rattle.effect.specs.declared.types.Board.{Board}
 use Rattle.effect.specs.declared.types.Effect.{Effect}
-use Rattle.action.specs.Operations.{writes, nothing, setsFlag, nop, illegal, trap, syscall, sumsOrRaises, jump, relative, afterSlot, branch, registerJump, returns, load, loadLinked, store, storeConditional, touch, specialRegister, setsSpecialRegister}
+use Rattle.action.specs.Operations.{writes, nothing, setsFlag, nop, illegal, trap, syscall, resultOrRaises, divides, accumulates, readsAccumulator, jump, relative, afterSlot, branch, registerJump, returns, load, loadLinked, store, storeConditional, touch, specialRegister, setsSpecialRegister}
 use Rattle.commit.specs.Commit.{inputs}
 
 -- jumps and branches by an immediate; below them kind 1, which is illegal, and no kind
@@ -66,8 +68,8 @@ loads mem k x =
 -- sums with an immediate
 unfoldable pub addImmediates : ℕ → Inputs → Effect
 addImmediates k x =
-    if eqb k 23 then sumsOrRaises x (sum (x .a) (x .immediate) 0) else  -- l.addi
-    if eqb k 24 then sumsOrRaises x (sum (x .a) (x .immediate) (bitAt CY (x .sr))) else  -- l.addic
+    if eqb k 23 then resultOrRaises x (sum (x .a) (x .immediate) 0) else  -- l.addi
+    if eqb k 24 then resultOrRaises x (sum (x .a) (x .immediate) (bitAt CY (x .sr))) else  -- l.addic
     illegal x
 
 -- "SPR number (decimal here): rA or K, bitwise."
@@ -100,9 +102,9 @@ stores len k x =
 -- sums and differences of registers
 unfoldable pub arithmetic : ℕ → Inputs → Effect
 arithmetic k x =
-    if eqb k 48 then sumsOrRaises x (sum (x .a) (x .b) 0) else  -- l.add
-    if eqb k 49 then sumsOrRaises x (sum (x .a) (x .b) (bitAt CY (x .sr))) else  -- l.addc
-    if eqb k 50 then sumsOrRaises x (difference (x .a) (x .b)) else  -- l.sub
+    if eqb k 48 then resultOrRaises x (sum (x .a) (x .b) 0) else  -- l.add
+    if eqb k 49 then resultOrRaises x (sum (x .a) (x .b) (bitAt CY (x .sr))) else  -- l.addc
+    if eqb k 50 then resultOrRaises x (difference (x .a) (x .b)) else  -- l.sub
     illegal x
 
 -- logic, shifts and extensions of registers
@@ -138,6 +140,20 @@ caches len k x =
     if eqb k 79 then touch x len else  -- p.cflush
     illegal x
 
+-- products, quotients and the accumulator. The immediate of l.muli and l.maci is the entry's, which is sign-extended. l.mulu's OV is 0, so it never raises.
+unfoldable pub products : ℕ → Inputs → Effect
+products k x =
+    if eqb k 80 then resultOrRaises x (product (x .a) (x .b)) else  -- l.mul
+    if eqb k 81 then resultOrRaises x (product (x .a) (x .immediate)) else  -- l.muli
+    if eqb k 82 then resultOrRaises x (productUnsigned (x .a) (x .b)) else  -- l.mulu
+    if eqb k 83 then divides x (quotient (x .a) (x .b)) else  -- l.div
+    if eqb k 84 then divides x (quotientUnsigned (x .a) (x .b)) else  -- l.divu
+    if eqb k 85 then accumulates x (added (x .accumulator) (x .a) (x .immediate)) else  -- l.maci
+    if eqb k 86 then accumulates x (added (x .accumulator) (x .a) (x .b)) else  -- l.mac
+    if eqb k 87 then accumulates x (subtracted (x .accumulator) (x .a) (x .b)) else  -- l.msb
+    if eqb k 88 then readsAccumulator x else  -- l.macrc
+    illegal x
+
 -- the groups in order, each with the first kind after it
 abbrev pub groups : Board → List ℕ → ℕ → Inputs → List (ℕ × Effect)
 groups board mem k x =
@@ -152,6 +168,7 @@ groups board mem k x =
     (firstLogic, arithmetic k x) ∷
     (firstCompare, logic k x) ∷
     (firstCache, compares (k - firstCompare) x (x .b)) ∷
+    (firstProduct, caches (length mem) k x) ∷
     []
 
 -- the first group that ends above k; else e
@@ -161,7 +178,7 @@ grouped k (g ∷ gs) e = if ltb k (g .0) then g .1 else grouped k gs e
 
 -- The instruction of kind k on memory mem. A number that is no kind is illegal, as kind 1 is.
 unfoldable pub meaning : Board → List ℕ → ℕ → Inputs → Effect
-meaning board mem k x = grouped k (groups board mem k x) (caches (length mem) k x)
+meaning board mem k x = grouped k (groups board mem k x) (products k x)
 
 -- the effect of an entry as it stands, whatever word memory holds
 abbrev pub effectOf : Board → List ℕ → List ℕ → ℕ → ℕ → Effect

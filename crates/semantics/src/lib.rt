@@ -1,15 +1,17 @@
-// What each kind does, a line a kind, in the order of document 01.
+// What each kind does, a line a kind, in the order of the kinds.
 ghost use mathlib.Core.Path.{_≡_};
 ghost use Prim.Native.Nat.{_-_, _<_};
-ghost use Rattle.isa.specs.Groups.{firstNopMovhi, firstCompareImmediate, firstCompare, IsNopMovhi, IsControl, IsLoad, IsAddImmediate, IsImmediate, IsCompareImmediate, IsStore, IsArithmetic, IsLogic, IsCompare};
+ghost use Rattle.isa.specs.Groups.{firstNopMovhi, firstCompareImmediate, firstCompare, IsNopMovhi, IsControl, IsLoad, IsAddImmediate, IsImmediate, IsCompareImmediate, IsStore, IsArithmetic, IsLogic, IsCompare, IsCache};
 ghost use Rattle.effect.specs.Inner.{effectBy, goesOn};
-ghost use Rattle.semantics.specs.Meaning.{branches, nopMovhi, control as controlOf, loads, addImmediates, immediates, stores, arithmetic as arithmeticOf, logic as logicOf, compares, caches};
+ghost use Rattle.semantics.specs.Meaning.{branches, nopMovhi, control as controlOf, loads, addImmediates, immediates, stores, arithmetic as arithmeticOf, logic as logicOf, compares, caches, products};
 use action::accesses;
+use action::accumulator;
 use action::completed;
+use action::divisions;
 use action::jumps;
 use action::raised;
+use action::results;
 use action::special;
-use action::sums;
 use effect::types::Action;
 use effect::types::Board;
 use effect::types::Inputs;
@@ -82,8 +84,8 @@ pub fn add_immediate(kind: u8, x: Inputs) -> Action
     ensures { λ r. ⌜ effectBy x r ≡ addImmediates kind x ⌝ }
 {
     match kind {
-        23 => sums::sum_or_raise(x, arith::add(x.a, x.immediate, 0)), // l.addi
-        24 => sums::sum_or_raise(x, arith::add(x.a, x.immediate, arith::carry(x.sr))), // l.addic
+        23 => results::result_or_raise(x, arith::add(x.a, x.immediate, 0)), // l.addi
+        24 => results::result_or_raise(x, arith::add(x.a, x.immediate, arith::carry(x.sr))), // l.addic
         _ => raised::illegal(x), // no kind comes here
     }
 }
@@ -127,9 +129,9 @@ pub fn arithmetic(kind: u8, x: Inputs) -> Action
     ensures { λ r. ⌜ effectBy x r ≡ arithmeticOf kind x ⌝ }
 {
     match kind {
-        48 => sums::sum_or_raise(x, arith::add(x.a, x.b, 0)), // l.add
-        49 => sums::sum_or_raise(x, arith::add(x.a, x.b, arith::carry(x.sr))), // l.addc
-        50 => sums::sum_or_raise(x, arith::sub(x.a, x.b)), // l.sub
+        48 => results::result_or_raise(x, arith::add(x.a, x.b, 0)), // l.add
+        49 => results::result_or_raise(x, arith::add(x.a, x.b, arith::carry(x.sr))), // l.addc
+        50 => results::result_or_raise(x, arith::sub(x.a, x.b)), // l.sub
         _ => raised::illegal(x), // no kind comes here
     }
 }
@@ -183,14 +185,33 @@ pub fn compare(kind: u8, x: Inputs) -> Written
     compare_at(kind - groups::COMPARE, x, x.b)
 }
 
-// The cache instructions, which only test their byte; above them no kind.
+// The cache instructions, which only test their byte.
 pub fn cache(len: usize, kind: u8, x: Inputs) -> Action
+    requires { ⌜ IsCache kind ⌝ }
     ensures { λ r. ⌜ effectBy x r ≡ caches len kind x ⌝ }
 {
     match kind {
         77 => accesses::touch(x, len), // p.cinvalidate
         78 => accesses::touch(x, len), // p.cwriteback
         79 => accesses::touch(x, len), // p.cflush
+        _ => raised::illegal(x), // no kind comes here
+    }
+}
+
+// Products, quotients and the accumulator; above them no kind.
+pub fn product(kind: u8, x: Inputs) -> Action
+    ensures { λ r. ⌜ effectBy x r ≡ products kind x ⌝ }
+{
+    match kind {
+        80 => results::result_or_raise(x, product::mul(x.a, x.b)), // l.mul
+        81 => results::result_or_raise(x, product::mul(x.a, x.immediate)), // l.muli
+        82 => results::result_or_raise(x, product::mul_unsigned(x.a, x.b)), // l.mulu
+        83 => divisions::divide(x), // l.div
+        84 => divisions::divide_unsigned(x), // l.divu
+        85 => accumulator::add(x, x.immediate), // l.maci
+        86 => accumulator::add(x, x.b), // l.mac
+        87 => accumulator::subtract(x, x.b), // l.msb
+        88 => Action::ReadAccumulator, // l.macrc
         _ => raised::illegal(x),
     }
 }

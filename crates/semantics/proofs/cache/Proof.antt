@@ -1,6 +1,7 @@
 use borrow.Author.Needs.{needs}
-use borrow.Author.Tests.{ne-eqb}
+use Rattle.isa.specs.Groups.{firstCache}
 use Rattle.semantics.specs.Meaning.{caches}
+use Rattle.semantics.proofs.Groups.{all-keys}
 use Rattle.semantics.proofs.cache.Statement.{statement}
 use Rattle.semantics.proofs.cache.Tie as tie
 
@@ -29,8 +30,7 @@ unfolding caches
 returns-3 c = simp (c .touch3 .ensures, c .before .match .keys3)
 
 returns-4 : tie.Need-returns-4
-unfolding caches
-returns-4 c = simp (c .illegal .ensures, ne-eqb _ _ (c .before .match .rest .1), ne-eqb _ _ (c .before .match .rest .0 .1), ne-eqb _ _ (c .before .match .rest .0 .0 .1))
+returns-4 c = let p = c .before .before .pre in absurd (all-keys firstCache 3 _ (p .0) (p .1) (c .before .match .rest))
 
 pub cache-spec : {M : Type 1} → statement M
 cache-spec = tie.close (tie.spec touch-requires touch-requires-2 touch-requires-3 illegal-requires returns returns-2 returns-3 returns-4)

@@ -29,8 +29,25 @@ returns-6 c = rw (c .match .keys6)
 
 returns-7 : tie.Need-returns-7
 unfolding specialRegister
-returns-7 c = let r = c .match .rest in
-    simp (ne-eqb _ _ (r .1), ne-eqb _ _ (r .0 .1), ne-eqb _ _ (r .0 .0 .1), ne-eqb _ _ (r .0 .0 .0 .1), ne-eqb _ _ (r .0 .0 .0 .0 .1), ne-eqb _ _ (r .0 .0 .0 .0 .0 .1))
+returns-7 c = rw (c .match .keys7)
+
+returns-8 : tie.Need-returns-8
+unfolding specialRegister
+returns-8 c = rw (c .match .keys8)
+
+returns-9 : tie.Need-returns-9
+unfolding specialRegister
+returns-9 c = let r = c .match .rest in let q = r .0 .0 in
+    simp (
+      ne-eqb _ _ (r .1),
+      ne-eqb _ _ (r .0 .1),
+      ne-eqb _ _ (q .1),
+      ne-eqb _ _ (q .0 .1),
+      ne-eqb _ _ (q .0 .0 .1),
+      ne-eqb _ _ (q .0 .0 .0 .1),
+      ne-eqb _ _ (q .0 .0 .0 .0 .1),
+      ne-eqb _ _ (q .0 .0 .0 .0 .0 .1),
+    )
 
 pub read-spec : {M : Type 1} → statement M
-read-spec = tie.close (tie.spec returns returns-2 returns-3 returns-4 returns-5 returns-6 returns-7)
+read-spec = tie.close (tie.spec returns returns-2 returns-3 returns-4 returns-5 returns-6 returns-7 returns-8 returns-9)

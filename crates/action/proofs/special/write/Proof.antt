@@ -34,6 +34,18 @@ keep-allowed-requires-2 c κs = search needs
 written-requires-4 : tie.Need-written-requires-4
 written-requires-4 c κs = search needs
 
+cast-written-4 : tie.Need-cast-written-4
+cast-written-4 c = search needs
+
+written-requires-5 : tie.Need-written-requires-5
+written-requires-5 c κs = search needs
+
+cast-written-5 : tie.Need-cast-written-5
+cast-written-5 c = search needs
+
+written-requires-6 : tie.Need-written-requires-6
+written-requires-6 c κs = search needs
+
 nothing-requires : tie.Need-nothing-requires
 nothing-requires c κs = search needs
 
@@ -55,7 +67,24 @@ returns-4 c = simp (c .written4 .ensures, c .before .keep-allowed2 .ensures, c .
 
 returns-5 : tie.Need-returns-5
 unfolding setsSpecialRegister
-returns-5 c = let r = c .before .match .rest in simp (c .nothing .ensures, ne-eqb _ _ (r .1), ne-eqb _ _ (r .0 .1), ne-eqb _ _ (r .0 .0 .1), ne-eqb _ _ (r .0 .0 .0 .1))
+returns-5 c = simp (c .written5 .ensures, c .before .match .keys5)
+
+returns-6 : tie.Need-returns-6
+unfolding setsSpecialRegister
+returns-6 c = simp (c .written6 .ensures, c .before .match .keys6)
+
+returns-7 : tie.Need-returns-7
+unfolding setsSpecialRegister
+returns-7 c = let r = c .before .match .rest in let q = r .0 .0 in
+    simp (
+      c .nothing .ensures,
+      ne-eqb _ _ (r .1),
+      ne-eqb _ _ (r .0 .1),
+      ne-eqb _ _ (q .1),
+      ne-eqb _ _ (q .0 .1),
+      ne-eqb _ _ (q .0 .0 .1),
+      ne-eqb _ _ (q .0 .0 .0 .1),
+    )
 
 pub write-spec : {M : Type 1} → statement M
 write-spec =
@@ -71,9 +100,15 @@ write-spec =
     cast-written-3
     keep-allowed-requires-2
     written-requires-4
+    cast-written-4
+    written-requires-5
+    cast-written-5
+    written-requires-6
     nothing-requires
     returns
     returns-2
     returns-3
     returns-4
-    returns-5)
+    returns-5
+    returns-6
+    returns-7)

@@ -10,6 +10,9 @@ use Rattle.codec.proofs.decoder.decode.Tie as tie
 kind-of-requires : tie.Need-kind-of-requires
 kind-of-requires c κs = search needs
 
+layout-of-requires : tie.Need-layout-of-requires
+layout-of-requires c κs = search needs
+
 shape-of-requires : tie.Need-shape-of-requires
 shape-of-requires c κs = search needs
 
@@ -20,11 +23,12 @@ pack-requires : tie.Need-pack-requires
 pack-requires c κs = search needs
 
 returns : tie.Need-returns
-returns c = let w = c .before .before .before .before .args .w in
-    let k = c .before .before .before .kind-of .ensures .0 in
-    let t = c .before .before .shape-of .result in
-    let d = subst (λ (n : ℕ). Describes n t) k (describes _ (search needs) (c .before .before .shape-of .ensures)) in
-    c .pack .ensures ∙ ap (packed (c .before .before .before .kind-of .result)) (c .before .fields .ensures .0) ∙ ap (λ n. packed n (fieldsIn t w)) k ∙ own-entry w t d
+returns c = let w = c .before .before .before .before .before .args .w in
+    let s = c .before .before in
+    let k = s .before .before .kind-of .ensures .0 in
+    let t = s .shape-of .result in
+    let d = subst (λ (n : ℕ). Describes n t) k (describes _ (search needs) (s .shape-of .ensures ∙ s .before .layout-of .ensures)) in
+    c .pack .ensures ∙ ap (packed (s .before .before .kind-of .result)) (c .before .fields .ensures .0) ∙ ap (λ n. packed n (fieldsIn t w)) k ∙ own-entry w t d
 
 pub decode-spec : {M : Type 1} → statement M
-decode-spec = tie.close (tie.spec kind-of-requires shape-of-requires fields-requires pack-requires returns)
+decode-spec = tie.close (tie.spec kind-of-requires layout-of-requires shape-of-requires fields-requires pack-requires returns)

@@ -16,7 +16,8 @@ use Rattle.codec.proofs.decoder.kind_of.Tie as tie
 
 -- the single opcodes of the match, the last arm's first
 abbrev keys : List ℕ
-keys = 0x3e ∷ 0x39 ∷ 0x38 ∷ 0x33 ∷ 0x30 ∷ 0x2f ∷ 0x2e ∷ 0x2d ∷ 0x1b ∷ 0x12 ∷ 0x11 ∷ 0x09 ∷ 0x08 ∷ 0x06 ∷ 0x05 ∷ 0x04 ∷ 0x03 ∷ 0x01 ∷ 0x00 ∷ []
+keys =
+    0x3e ∷ 0x39 ∷ 0x38 ∷ 0x33 ∷ 0x31 ∷ 0x30 ∷ 0x2f ∷ 0x2e ∷ 0x2d ∷ 0x2c ∷ 0x1b ∷ 0x13 ∷ 0x12 ∷ 0x11 ∷ 0x09 ∷ 0x08 ∷ 0x06 ∷ 0x05 ∷ 0x04 ∷ 0x03 ∷ 0x01 ∷ 0x00 ∷ []
 
 kind-by-requires : tie.Need-kind-by-requires
 kind-by-requires c κs = search needs
@@ -35,6 +36,9 @@ shift-kind-requires c κs = search needs
 
 compare-kind-requires : tie.Need-compare-kind-requires
 compare-kind-requires c κs = search needs
+
+accumulate-kind-requires : tie.Need-accumulate-kind-requires
+accumulate-kind-requires c κs = search needs
 
 register-kind-requires : tie.Need-register-kind-requires
 register-kind-requires c κs = search needs
@@ -85,7 +89,7 @@ returns-5 c = by-field (c .before .before .args .w) 0x05 24 2 (λ x. if eqb x 1 
 
 returns-6 : tie.Need-returns-6
 unfolding rows fits firstFit kindOf kindIn
-returns-6 c = by-field (c .before .before .args .w) 0x06 16 1 (λ x. if eqb x 0 then 7 else 1) _ (c .before .match .keys6) tt tt (c .kind-by2 .ensures)
+returns-6 c = by-field (c .before .before .args .w) 0x06 16 1 (λ x. if eqb x 0 then 7 else 88) _ (c .before .match .keys6) tt tt (c .kind-by2 .ensures)
 
 returns-7 : tie.Need-returns-7
 unfolding rows
@@ -105,69 +109,82 @@ returns-10 c = by-field (c .before .before .args .w) 0x12 11 5 (λ x. if eqb x 9
 
 returns-11 : tie.Need-returns-11
 unfolding rows fits firstFit kindOf kindIn
-returns-11 c = by-opcode (c .before .args .w) 0x1b 16 (c .match .keys11) tt
+returns-11 c = by-opcode (c .before .args .w) 0x13 85 (c .match .keys11) tt
 
 returns-12 : tie.Need-returns-12
 unfolding rows fits firstFit kindOf kindIn
-returns-12 c = by-opcode (c .before .args .w) 0x2d 28 (c .match .keys12) tt
+returns-12 c = by-opcode (c .before .args .w) 0x1b 16 (c .match .keys12) tt
 
 returns-13 : tie.Need-returns-13
-unfolding rows
-returns-13 c = by-bits (c .before .before .args .w) 0x2e 6 2 _ (c .before .match .keys13) tt (c .shift-kind .ensures)
+unfolding rows fits firstFit kindOf kindIn
+returns-13 c = by-opcode (c .before .args .w) 0x2c 81 (c .match .keys13) tt
 
 returns-14 : tie.Need-returns-14
-unfolding rows fits firstFit kindOf kindIn compareKind
-returns-14 c = by-field (c .before .before .args .w) 0x2f 21 5 (compareKind firstCompareImmediate) _ (c .before .match .keys14) tt tt (c .compare-kind .ensures)
+unfolding rows fits firstFit kindOf kindIn
+returns-14 c = by-opcode (c .before .args .w) 0x2d 28 (c .match .keys14) tt
 
 returns-15 : tie.Need-returns-15
-unfolding rows fits firstFit kindOf kindIn
-returns-15 c = by-opcode (c .before .args .w) 0x30 43 (c .match .keys15) tt
+unfolding rows
+returns-15 c = by-bits (c .before .before .args .w) 0x2e 6 2 _ (c .before .match .keys15) tt (c .shift-kind .ensures)
 
 returns-16 : tie.Need-returns-16
-unfolding rows fits firstFit kindOf kindIn
-returns-16 c = by-opcode (c .before .args .w) 0x33 44 (c .match .keys16) tt
+unfolding rows fits firstFit kindOf kindIn compareKind
+returns-16 c = by-field (c .before .before .args .w) 0x2f 21 5 (compareKind firstCompareImmediate) _ (c .before .match .keys16) tt tt (c .compare-kind .ensures)
 
 returns-17 : tie.Need-returns-17
-unfolding rows
-returns-17 c = let w = c .before .before .args .w in
-    by-bits w 0x38 0 10 _ (c .before .match .keys17) tt (c .register-kind .ensures ∙ ap (λ n. kindIn 0x38 0 (n % 2 ^ 10)) (sym (div-one w)))
+unfolding rows fits firstFit kindOf kindIn
+returns-17 c = by-opcode (c .before .args .w) 0x30 43 (c .match .keys17) tt
 
 returns-18 : tie.Need-returns-18
-unfolding rows fits firstFit kindOf kindIn compareKind
-returns-18 c = by-field (c .before .before .args .w) 0x39 21 5 (compareKind firstCompare) _ (c .before .match .keys18) tt tt (c .compare-kind2 .ensures)
+unfolding rows
+returns-18 c = let w = c .before .before .args .w in
+    by-bits w 0x31 0 4 _ (c .before .match .keys18) tt (c .accumulate-kind .ensures ∙ ap (λ n. kindIn 0x31 0 (n % 2 ^ 4)) (sym (div-one w)))
 
 returns-19 : tie.Need-returns-19
-unfolding rows
-returns-19 c = by-bits (c .before .before .args .w) 0x3e 11 2 _ (c .before .match .keys19) tt (c .cache-kind .ensures)
+unfolding rows fits firstFit kindOf kindIn
+returns-19 c = by-opcode (c .before .args .w) 0x33 44 (c .match .keys19) tt
 
 returns-20 : tie.Need-returns-20
-unfolding rows fits firstFit kindOf kindIn
-returns-20 c = let w = c .before .before .before .args .w in
-    by-opcode w _ _ refl (within-but (λ o. settles o (o - 16)) [] 0x21 6 tt (w / 2 ^ 26) (omega arith) (omega arith) tt)
+unfolding rows
+returns-20 c = let w = c .before .before .args .w in
+    by-bits w 0x38 0 10 _ (c .before .match .keys20) tt (c .register-kind .ensures ∙ ap (λ n. kindIn 0x38 0 (n % 2 ^ 10)) (sym (div-one w)))
 
 returns-21 : tie.Need-returns-21
-unfolding rows fits firstFit kindOf kindIn
-returns-21 c = let w = c .before .before .before .before .args .w in
-    by-opcode w _ _ refl (within-but (λ o. settles o (o - 16)) [] 0x27 5 tt (w / 2 ^ 26) (omega arith) (omega arith) tt)
+unfolding rows fits firstFit kindOf kindIn compareKind
+returns-21 c = by-field (c .before .before .args .w) 0x39 21 5 (compareKind firstCompare) _ (c .before .match .keys21) tt tt (c .compare-kind2 .ensures)
 
 returns-22 : tie.Need-returns-22
-unfolding rows fits firstFit kindOf kindIn
-returns-22 c = let w = c .before .before .before .before .before .before .args .w in
-    by-opcode w _ _ refl (within-but (λ o. settles o (o - 8)) [] 0x35 3 tt (w / 2 ^ 26) (omega arith) (omega arith) tt)
+unfolding rows
+returns-22 c = by-bits (c .before .before .args .w) 0x3e 11 2 _ (c .before .match .keys22) tt (c .cache-kind .ensures)
 
 returns-23 : tie.Need-returns-23
 unfolding rows fits firstFit kindOf kindIn
-returns-23 c = let w = c .before .before .args .w in
-    by-opcode w _ 1 refl (within-but (λ o. settles o 1) keys 0x00 33 tt (w / 2 ^ 26) (omega arith) (omega arith) (c .before .match .rest))
+returns-23 c = let w = c .before .before .before .args .w in
+    by-opcode w _ _ refl (within-but (λ o. settles o (o - 16)) [] 0x21 6 tt (w / 2 ^ 26) (omega arith) (omega arith) tt)
 
 returns-24 : tie.Need-returns-24
 unfolding rows fits firstFit kindOf kindIn
-returns-24 c = let w = c .before .before .before .before .before .args .w in
-    by-opcode w _ 1 refl (within-but (λ o. settles o 1) keys 0x2c 9 tt (w / 2 ^ 26) (omega arith) (omega arith) (c .before .before .before .before .match .rest))
+returns-24 c = let w = c .before .before .before .before .args .w in
+    by-opcode w _ _ refl (within-but (λ o. settles o (o - 16)) [] 0x27 5 tt (w / 2 ^ 26) (omega arith) (omega arith) tt)
 
 returns-25 : tie.Need-returns-25
 unfolding rows fits firstFit kindOf kindIn
 returns-25 c = let w = c .before .before .before .before .before .before .args .w in
+    by-opcode w _ _ refl (within-but (λ o. settles o (o - 8)) [] 0x35 3 tt (w / 2 ^ 26) (omega arith) (omega arith) tt)
+
+returns-26 : tie.Need-returns-26
+unfolding rows fits firstFit kindOf kindIn
+returns-26 c = let w = c .before .before .args .w in
+    by-opcode w _ 1 refl (within-but (λ o. settles o 1) keys 0x00 33 tt (w / 2 ^ 26) (omega arith) (omega arith) (c .before .match .rest))
+
+returns-27 : tie.Need-returns-27
+unfolding rows fits firstFit kindOf kindIn
+returns-27 c = let w = c .before .before .before .before .before .args .w in
+    by-opcode w _ 1 refl (within-but (λ o. settles o 1) keys 0x2c 9 tt (w / 2 ^ 26) (omega arith) (omega arith) (c .before .before .before .before .match .rest))
+
+returns-28 : tie.Need-returns-28
+unfolding rows fits firstFit kindOf kindIn
+returns-28 c = let w = c .before .before .before .before .before .before .args .w in
     by-opcode w _ 1 refl (within-but (λ o. settles o 1) keys 0x38 8 tt (w / 2 ^ 26) (omega arith) (omega arith) (c .before .before .before .before .before .match .rest))
 
 pub kind-of-spec : {M : Type 1} → statement M
@@ -180,6 +197,7 @@ kind-of-spec =
     kind-by-requires-3
     shift-kind-requires
     compare-kind-requires
+    accumulate-kind-requires
     register-kind-requires
     compare-kind-requires-2
     cache-kind-requires
@@ -213,4 +231,7 @@ kind-of-spec =
     returns-22
     returns-23
     returns-24
-    returns-25)
+    returns-25
+    returns-26
+    returns-27
+    returns-28)

@@ -1,3 +1,4 @@
+use mathlib.Core.Path.{_∙_}
 use Prim.Native.Nat.{_/_, _^_}
 use native.Mathlib.Omega.{arith}
 use Rattle.codec.proofs.Encodes.{encodes-high, made, made-lt}
@@ -15,6 +16,9 @@ cast-if1 c = search needs
 returns : tie.Need-returns
 returns c = encodes-high (c .before .args .e) (omega arith)
 
+layout-of-requires : tie.Need-layout-of-requires
+layout-of-requires c κs = search needs
+
 shape-of-requires : tie.Need-shape-of-requires
 shape-of-requires c κs = search needs
 
@@ -30,8 +34,8 @@ bare-word-requires c κs = search needs
 add-checked : tie.Need-add-checked
 add-checked c =
     let s = c .before .before .before in
-    let e = s .before .before .args .e in
-    let d = describes _ (search needs) (s .shape-of .ensures) in
+    let e = s .before .before .before .args .e in
+    let d = describes _ (search needs) (s .shape-of .ensures ∙ s .before .layout-of .ensures) in
     let u = s .shape-of .result in
     let f = c .before .field-word in
     let p = c .before .before .unpack in
@@ -40,12 +44,12 @@ add-checked c =
 checked-requires : tie.Need-checked-requires
 checked-requires c κs =
     let s = c .before .before .before in
-    let e = s .before .before .args .e in
-    let d = describes _ (search needs) (s .shape-of .ensures) in
+    let e = s .before .before .before .args .e in
+    let d = describes _ (search needs) (s .shape-of .ensures ∙ s .before .layout-of .ensures) in
     made e (e / 2 ^ 56) _ _ _ _ (omega arith) d (c .bare-word .ensures) (c .before .field-word .ensures) (c .before .before .unpack .ensures .0)
 
 returns-2 : tie.Need-returns-2
 returns-2 c = search needs
 
 pub encode-spec : {M : Type 1} → statement M
-encode-spec = tie.close (tie.spec cast-k cast-if1 returns shape-of-requires unpack-requires field-word-requires bare-word-requires add-checked checked-requires returns-2)
+encode-spec = tie.close (tie.spec cast-k cast-if1 returns layout-of-requires shape-of-requires unpack-requires field-word-requires bare-word-requires add-checked checked-requires returns-2)

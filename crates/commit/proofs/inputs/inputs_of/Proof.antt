@@ -54,6 +54,12 @@ shared-slice-read-t30 c = search needs
 shared-slice-read-t32 : tie.Need-shared-slice-read-t32
 shared-slice-read-t32 c = search needs
 
+shared-slice-read-t35 : tie.Need-shared-slice-read-t35
+shared-slice-read-t35 c = search needs
+
+shared-slice-read-t37 : tie.Need-shared-slice-read-t37
+shared-slice-read-t37 c = search needs
+
 returns : tie.Need-returns
 returns c = refl
 
@@ -78,4 +84,6 @@ inputs-of-spec =
     shared-slice-read-t28
     shared-slice-read-t30
     shared-slice-read-t32
+    shared-slice-read-t35
+    shared-slice-read-t37
     returns)

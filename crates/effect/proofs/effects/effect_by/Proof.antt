@@ -31,8 +31,8 @@ fault-effect-requires c κs = search needs
 enum-known-action-5 : tie.Need-enum-known-action-5
 enum-known-action-5 c = search needs
 
-overflow-effect-requires : tie.Need-overflow-effect-requires
-overflow-effect-requires c κs = search needs
+range-effect-requires : tie.Need-range-effect-requires
+range-effect-requires c κs = search needs
 
 enum-told : tie.Need-enum-told
 enum-told c = search needs
@@ -67,6 +67,18 @@ no-store-requires c κs = search needs
 save-linked-effect-requires-2 : tie.Need-save-linked-effect-requires-2
 save-linked-effect-requires-2 c κs = search needs
 
+enum-known-action-8 : tie.Need-enum-known-action-8
+enum-known-action-8 c = search needs
+
+accumulate-effect-requires : tie.Need-accumulate-effect-requires
+accumulate-effect-requires c κs = search needs
+
+enum-told-4 : tie.Need-enum-told-4
+enum-told-4 c = search needs
+
+read-accumulator-effect-requires : tie.Need-read-accumulator-effect-requires
+read-accumulator-effect-requires c κs = search needs
+
 returns : tie.Need-returns
 unfolding effectBy
 returns c = (c .advance-effect .ensures) ∙ sym (ap (effectBy (c .before .before .before .before .args .x)) (c .before .before .action .given .1))
@@ -85,7 +97,7 @@ returns-4 c = (c .fault-effect .ensures) ∙ sym (ap (effectBy (c .before .befor
 
 returns-5 : tie.Need-returns-5
 unfolding effectBy
-returns-5 c = (c .overflow-effect .ensures) ∙ sym (ap (effectBy (c .before .before .before .before .args .x)) (c .before .before .action5 .given .1))
+returns-5 c = (c .range-effect .ensures) ∙ sym (ap (effectBy (c .before .before .before .before .args .x)) (c .before .before .action5 .given .1))
 
 returns-6 : tie.Need-returns-6
 unfolding effectBy
@@ -107,6 +119,14 @@ returns-10 : tie.Need-returns-10
 unfolding effectBy
 returns-10 c = (simp (c .save-linked-effect2 .ensures, c .before .no-store .ensures)) ∙ sym (ap (effectBy (c .before .before .before .before .args .x)) (c .before .before .enum-told3 .given .1))
 
+returns-11 : tie.Need-returns-11
+unfolding effectBy
+returns-11 c = (c .accumulate-effect .ensures) ∙ sym (ap (effectBy (c .before .before .before .before .args .x)) (c .before .before .action8 .given .1))
+
+returns-12 : tie.Need-returns-12
+unfolding effectBy
+returns-12 c = (c .read-accumulator-effect .ensures) ∙ sym (ap (effectBy (c .before .before .before .args .x)) (c .before .enum-told4 .given .1))
+
 pub effect-by-spec : {M : Type 1} → statement M
 effect-by-spec =
     tie.close
@@ -120,7 +140,7 @@ effect-by-spec =
     enum-known-action-4
     fault-effect-requires
     enum-known-action-5
-    overflow-effect-requires
+    range-effect-requires
     enum-told
     return-effect-requires
     enum-told-2
@@ -132,6 +152,10 @@ effect-by-spec =
     enum-told-3
     no-store-requires
     save-linked-effect-requires-2
+    enum-known-action-8
+    accumulate-effect-requires
+    enum-told-4
+    read-accumulator-effect-requires
     returns
     returns-2
     returns-3
@@ -141,4 +165,6 @@ effect-by-spec =
     returns-7
     returns-8
     returns-9
-    returns-10)
+    returns-10
+    returns-11
+    returns-12)

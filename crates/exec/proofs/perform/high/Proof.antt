@@ -1,8 +1,8 @@
 use mathlib.Core.Path.{_∙_}
 use native.Mathlib.Omega.{arith}
 use denote.Ref.{now}
-use Rattle.semantics.proofs.Groups.{is-compare, is-cache}
-use Rattle.exec.proofs.Performs.{committable, performs, writable, writes}
+use Rattle.semantics.proofs.Groups.{is-compare}
+use Rattle.exec.proofs.Performs.{writable, writes}
 use borrow.Author.Needs.{needs}
 use Rattle.exec.proofs.perform.high.Statement.{statement}
 use Rattle.exec.proofs.perform.high.Tie as tie
@@ -23,15 +23,8 @@ write-requires : tie.Need-write-requires
 write-requires c κs = let s = c .before .before in let t = s .before .before .before .before .before .before .before .before in
     writable (t .args .board) (now (t .args .memory)) _ _ _ _ (s .before .inputs-at .ensures) _ (s .compare .ensures ∙ is-compare _ _ _ _ (omega arith, omega arith)) (t .pre .0)
 
-inputs-at-requires-2 : tie.Need-inputs-at-requires-2
-inputs-at-requires-2 c κs = search needs
-
-cache-requires : tie.Need-cache-requires
-cache-requires c κs = search needs
-
-advance-requires : tie.Need-advance-requires
-advance-requires c κs = let s = c .before .before in let t = s .before .before .before .before .before .before .before .before in
-    committable (t .args .board) (now (t .args .memory)) _ _ _ _ (s .before .inputs-at2 .ensures) _ (s .cache .ensures ∙ is-cache _ _ _ _ (omega arith)) (t .pre .0)
+top-requires : tie.Need-top-requires
+top-requires c κs = search needs
 
 same-length : tie.Need-same-length
 same-length c = search needs
@@ -68,8 +61,7 @@ same-length-8 : tie.Need-same-length-8
 same-length-8 c = search needs
 
 returns-4 : tie.Need-returns-4
-returns-4 c = let k = c .before .before .before .before in let s = k .before .before .before in let t = s .before .before .before .before .before .before .before .before in
-    performs _ _ _ _ _ _ (s .before .inputs-at2 .ensures) _ (s .cache .ensures ∙ is-cache _ _ _ _ (omega arith)) (k .advance .ensures)
+returns-4 c = c .before .before .before .before .top .ensures
 
 pub high-spec : {M : Type 1} → statement M
 high-spec =
@@ -80,9 +72,7 @@ high-spec =
     inputs-at-requires
     compare-requires
     write-requires
-    inputs-at-requires-2
-    cache-requires
-    advance-requires
+    top-requires
     same-length
     same-length-2
     returns

@@ -1,0 +1,180 @@
+//! Engines that are wrong in single steps of some kinds.
+
+use compare::battery::Pair;
+use compare::check::{Codec, Engine, BY_CACHE, BY_HISTORY};
+use compare::dump;
+use compare::exec::{self, Cause, Exception};
+use compare::isa::{self, Insn, Kind};
+use compare::runs::{self, Answer};
+use compare::state::{Core, CY, OV, SHEET_WORDS};
+
+/// One step as this engine takes it, for another to spoil.
+pub struct Taken {
+    pub insn: Insn,
+    pub before: Core,
+    pub after: Core,
+    pub raised: bool,
+}
+
+impl Taken {
+    /// Ends it another way, after rD and flags are written.
+    pub fn end(&mut self, raised: bool) {
+        let sr = if self.raised { self.after.esr } else { self.after.sr };
+        let Core { regs, machi, maclo, .. } = self.after;
+        let mut core = Core { regs, sr, machi, maclo, ..self.before };
+        if raised {
+            exec::take(&mut core, Exception { cause: Cause::Range, failing: None });
+        } else {
+            exec::advance(&mut core);
+        }
+        (self.after, self.raised) = (core, raised);
+    }
+
+    /// Spoils what it left, given what was there before, if it raised.
+    pub fn if_raised(&mut self, spoil: fn(&mut Core, &Core)) {
+        if self.raised {
+            spoil(&mut self.after, &self.before);
+        }
+    }
+
+    /// Another result in rD.
+    pub fn result(&mut self, value: u32) {
+        self.after.set(self.insn.d, value);
+    }
+
+    /// Another flag, also in ESR if it raised.
+    pub fn flag(&mut self, bit: u32, on: bool) {
+        self.after.put(bit, on);
+        if self.raised {
+            self.after.esr = self.after.esr & !bit | if on { bit } else { 0 };
+        }
+    }
+
+    /// Another result and other flags; then it raises on OV or not.
+    pub fn all(&mut self, value: u32, carry: bool, overflow: bool, raised: bool) {
+        self.result(value);
+        self.flag(CY, carry);
+        self.flag(OV, overflow);
+        self.end(raised);
+    }
+
+    /// The factors, or the dividend and the divisor.
+    pub fn operands(&self) -> (u32, u32) {
+        let (core, insn) = (&self.before, self.insn);
+        let immediate = matches!(insn.kind, Kind::Muli | Kind::Maci);
+        (core.get(insn.a), if immediate { insn.imm } else { core.get(insn.b) })
+    }
+
+    /// Whether it is a division by zero.
+    pub fn by_zero(&self) -> bool {
+        matches!(self.insn.kind, Kind::Div | Kind::Divu) && self.operands().1 == 0
+    }
+}
+
+/// An engine that is wrong in steps of some kinds alone; it is asked accepted
+/// cases.
+pub struct WrongStep {
+    pub name: &'static str,
+    pub of: &'static [Kind],
+    pub spoil: fn(&mut Taken),
+}
+
+/// As a constant, so that a list of them reads like a table.
+pub const fn wrong(name: &'static str, of: &'static [Kind], spoil: fn(&mut Taken)) -> WrongStep {
+    WrongStep { name, of, spoil }
+}
+
+impl WrongStep {
+    /// One entry: whether it raised and whether it counts as reused.
+    fn step(
+        &self,
+        memory: &mut [u8],
+        cores: &mut [Core],
+        who: usize,
+        table: Option<&mut [u64]>,
+    ) -> (bool, bool) {
+        let before = cores[who];
+        let word = exec::fetch(memory, before.pc);
+        let (step, reused) = match table {
+            None => (runs::plain_step(memory, cores, who), false),
+            Some(table) => runs::fast_step(memory, cores, who, table),
+        };
+        let raised = step.raised.is_some();
+        match word.map(isa::decode_insn) {
+            Some(insn) if self.of.contains(&insn.kind) => {
+                let mut taken = Taken { insn, before, after: cores[who], raised };
+                (self.spoil)(&mut taken);
+                cores[who] = taken.after;
+                (taken.raised, reused)
+            }
+            _ => (raised, reused),
+        }
+    }
+
+    /// The fast run, or without a table the plain one.
+    fn run(
+        &self,
+        memory: &mut [u8],
+        sheets: &mut [u32],
+        schedule: &[u8],
+        mut table: Option<&mut [u64]>,
+    ) -> u64 {
+        let mut answer = Answer::default();
+        let mut cores: Vec<Core> = sheets.chunks(SHEET_WORDS).map(Core::from_sheet).collect();
+        for who in schedule.iter().map(|&entry| usize::from(entry)) {
+            if cores[who].running {
+                let (raised, reused) = self.step(memory, &mut cores, who, table.as_deref_mut());
+                answer.executed += 1;
+                answer.raised += u32::from(raised);
+                answer.reused += u32::from(reused);
+            }
+        }
+        for (core, sheet) in cores.iter().zip(sheets.chunks_mut(SHEET_WORDS)) {
+            core.to_sheet(sheet);
+        }
+        answer.pack()
+    }
+}
+
+impl Codec for WrongStep {
+    fn name(&self) -> &str {
+        self.name
+    }
+    fn decode(&self, word: u32) -> u64 {
+        BY_CACHE.decode(word)
+    }
+    fn encode(&self, entry: u64) -> u64 {
+        BY_CACHE.encode(entry)
+    }
+}
+
+impl Engine for WrongStep {
+    fn plain_run(&self, memory: &mut [u8], sheets: &mut [u32], schedule: &[u8]) -> u64 {
+        self.run(memory, sheets, schedule, None)
+    }
+    fn fast_run(
+        &self,
+        memory: &mut [u8],
+        sheets: &mut [u32],
+        schedule: &[u8],
+        table: &mut [u64],
+    ) -> u64 {
+        self.run(memory, sheets, schedule, Some(table))
+    }
+}
+
+/// The battery stops the engine, and the dumped case does so again.
+pub fn assert_stopped(engine: &dyn Engine) {
+    let pair = Pair { one: &BY_HISTORY, other: engine };
+    let text = pair.accepted_cases(0..300, 200).expect_err(engine.name());
+    assert!(text.starts_with("seed "), "{text}");
+    let case = dump::read_case(&text).expect("a case that can be run again");
+    assert!(pair.case(&case, 0).is_err(), "{}: the case from its dump", engine.name());
+}
+
+/// The battery passes an engine that is right, also on cards.
+pub fn assert_passed(engine: &dyn Engine) {
+    let pair = Pair { one: &BY_HISTORY, other: engine };
+    assert_eq!(pair.accepted_cases(0..300, 200), Ok(()), "{}", engine.name());
+    assert_eq!(pair.good_cards(0..300), Ok(()), "{}", engine.name());
+}
