@@ -25,21 +25,24 @@ fn of_seed(seed: u64, verdict: Verdict) -> Verdict {
     verdict.map_err(|text| format!("seed {seed}: {text}"))
 }
 
-/// Decodes words taken through all opcodes and many random ones.
+/// Decodes words taken through all opcodes and registers and many random ones.
 pub fn words(one: &dyn Codec, other: &dyn Codec, seed: u64, count: usize) -> Verdict {
     let mut rng = Rng::new(seed);
     let mut words = programs::systematic_words(&mut rng);
+    words.extend(programs::field_words(&mut rng));
     words.extend((0..count).map(|_| programs::any_word(&mut rng)));
     let same = |&word: &u32| check::same_word(one, other, word);
     of_seed(seed, words.iter().try_for_each(same))
 }
 
-/// Encodes the forms of such words, and entries near them.
+/// Encodes the forms of such words, entries near them, and every value in and
+/// above the registers' fields.
 pub fn entries(one: &dyn Codec, other: &dyn Codec, seed: u64, count: usize) -> Verdict {
     let mut rng = Rng::new(seed);
     let words = programs::systematic_words(&mut rng);
     let forms = words.iter().map(|&word| one.decode(word));
     let mut entries: Vec<u64> = forms.collect();
+    entries.extend(programs::field_entries(&mut rng));
     entries.extend((0..count).map(|_| programs::any_entry(&mut rng)));
     let same = |&entry: &u64| check::same_entry(one, other, entry);
     of_seed(seed, entries.iter().try_for_each(same))

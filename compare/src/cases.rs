@@ -127,7 +127,7 @@ fn plant_self_store(rng: &mut Rng, case: &mut Case, core: usize) {
     let imm = own.wrapping_sub(sheet[2]);
     if (own as usize) < case.memory.len() && rng.one_in(3) {
         let (kind, value) = (rng.pick(&[Kind::Sw, Kind::Sb, Kind::Sh]), rng.between(5, 8));
-        let word = programs::assemble(rng, Insn { kind, d: 0, a: 2, b: value as u8, imm });
+        let word = programs::assemble(rng, Insn::new(kind, 0, 2, value as u8, imm));
         case.set_word(own as usize / 4, word);
     }
 }

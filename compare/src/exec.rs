@@ -1,6 +1,6 @@
 //! One instruction on one core ("One instruction").
 
-use crate::isa::{Insn, Kind};
+use crate::isa::{Insn, Kind, Reg};
 use crate::state::{self, Core, CY, DSX, F, IEE, OV, OVE, SM, TEE};
 
 /// Why an instruction did not complete.
@@ -153,7 +153,7 @@ fn control(core: &mut Core, insn: Insn) -> Outcome {
         Kind::Bf => Ok(Flow::Jump(if core.has(F) { near } else { after_slot })),
         Kind::Bnf => Ok(Flow::Jump(if core.has(F) { after_slot } else { near })),
         Kind::Jal => {
-            core.set(9, after_slot);
+            core.set(Reg::R9, after_slot);
             Ok(Flow::Jump(near))
         }
         Kind::Jr | Kind::Jalr => jump_to_register(core, insn),
@@ -168,7 +168,7 @@ fn jump_to_register(core: &mut Core, insn: Insn) -> Outcome {
         return Err(Cause::Alignment.at(goal));
     }
     if insn.kind == Kind::Jalr {
-        core.set(9, core.pc.wrapping_add(8));
+        core.set(Reg::R9, core.pc.wrapping_add(8));
     }
     Ok(Flow::Jump(goal))
 }

@@ -33,8 +33,10 @@ pub const NO_WORD: u64 = 1 << 32;
 /// "The encoder writes ... kind 1 as fc000000."
 pub const ILLEGAL_WORD: u32 = 0xfc00_0000;
 
-/// "l.jalr naming r9 is kind 1": the link register.
-const LINK_REGISTER: u8 = 9;
+/// A register's number. 02, note 3: a byte "below 32" from where it is cut out
+/// of a word or entry to where it is put into one.
+#[derive(Clone, Copy, Debug, PartialEq, Eq)]
+pub struct Reg(u8);
 
 /// Where a word keeps its immediate and how execution uses it.
 #[derive(Clone, Copy, Debug)]
@@ -53,9 +55,9 @@ pub struct Imm {
 /// fields are 0."
 #[derive(Clone, Copy, Debug)]
 pub struct Layout {
-    d: u32,
-    a: u32,
-    b: u32,
+    d: Reg,
+    a: Reg,
+    b: Reg,
     imm: Imm,
 }
 
@@ -72,9 +74,9 @@ pub struct Row {
 #[derive(Clone, Copy, Debug, PartialEq, Eq)]
 pub struct Insn {
     pub kind: Kind,
-    pub d: u8,
-    pub a: u8,
-    pub b: u8,
+    pub d: Reg,
+    pub a: Reg,
+    pub b: Reg,
     pub imm: u32,
 }
 
@@ -93,8 +95,16 @@ const FIVE: Imm = imm(false, 5, false, 0);
 const SPLIT_ZERO: Imm = imm(true, 16, false, 0);
 const SPLIT_SIGN: Imm = imm(true, 16, true, 0);
 
+const fn mask(used: bool) -> Reg {
+    if used {
+        Reg::R31
+    } else {
+        Reg::R0
+    }
+}
+
 const fn uses(d: bool, a: bool, b: bool, imm: Imm) -> Layout {
-    Layout { d: 31 * d as u32, a: 31 * a as u32, b: 31 * b as u32, imm }
+    Layout { d: mask(d), a: mask(a), b: mask(b), imm }
 }
 
 const NONE: Layout = uses(false, false, false, NO_IMM);
@@ -264,7 +274,45 @@ const fn rows_to_try() -> [[u8; KEYS]; 64] {
     rows
 }
 
-const ILLEGAL: Insn = Insn { kind: Kind::Illegal, d: 0, a: 0, b: 0, imm: 0 };
+const ILLEGAL: Insn = Insn { kind: Kind::Illegal, d: Reg::R0, a: Reg::R0, b: Reg::R0, imm: 0 };
+
+impl Reg {
+    pub const R0: Reg = Reg(0);
+    /// The link register.
+    pub const R9: Reg = Reg(9);
+    /// Five ones.
+    pub const R31: Reg = Reg(31);
+
+    /// The register with this number, if there is one.
+    pub const fn new(number: u8) -> Option<Reg> {
+        if number < 32 {
+            Some(Reg(number))
+        } else {
+            None
+        }
+    }
+
+    /// The bits of a wider number from a place on, as far as the mask has ones:
+    /// below 32, as the mask is.
+    fn cut(wider: impl Into<u64>, place: u32, mask: Reg) -> Reg {
+        Reg((wider.into() >> place) as u8 & mask.0)
+    }
+
+    fn under(self, mask: Reg) -> Reg {
+        Reg(self.0 & mask.0)
+    }
+
+    pub fn number(self) -> u8 {
+        self.0
+    }
+
+    /// Its place among 32. The mask changes nothing: it spares the test whether
+    /// it is below 32, which the compiler does not see.
+    #[inline]
+    pub fn index(self) -> usize {
+        usize::from(self.0 & Reg::R31.0)
+    }
+}
 
 impl Imm {
     /// A number as an immediate of this form can be: cut to its bits, then
@@ -293,9 +341,9 @@ impl Imm {
 impl Layout {
     /// The bits of a word that hold an instruction's fields.
     fn write(&self, insn: Insn) -> u32 {
-        (u32::from(insn.d) & self.d) << 21
-            | (u32::from(insn.a) & self.a) << 16
-            | (u32::from(insn.b) & self.b) << 11
+        u32::from(insn.d.under(self.d).0) << 21
+            | u32::from(insn.a.under(self.a).0) << 16
+            | u32::from(insn.b.under(self.b).0) << 11
             | self.imm.write(insn.imm)
     }
 
@@ -303,9 +351,9 @@ impl Layout {
     pub fn fit(&self, insn: Insn) -> Insn {
         Insn {
             kind: insn.kind,
-            d: insn.d & self.d as u8,
-            a: insn.a & self.a as u8,
-            b: insn.b & self.b as u8,
+            d: insn.d.under(self.d),
+            a: insn.a.under(self.a),
+            b: insn.b.under(self.b),
             imm: self.imm.fit(insn.imm),
         }
     }
@@ -315,9 +363,9 @@ impl Layout {
 fn read_fields(row: &Row, word: u32) -> Insn {
     Insn {
         kind: row.kind,
-        d: (word >> 21 & row.layout.d) as u8,
-        a: (word >> 16 & row.layout.a) as u8,
-        b: (word >> 11 & row.layout.b) as u8,
+        d: Reg::cut(word, 21, row.layout.d),
+        a: Reg::cut(word, 16, row.layout.a),
+        b: Reg::cut(word, 11, row.layout.b),
         imm: row.layout.imm.read(word),
     }
 }
@@ -327,7 +375,8 @@ pub fn decode_insn(word: u32) -> Insn {
     let opcode = (word >> 26) as usize;
     let row = &TABLE[usize::from(TRY[opcode][key(KEY_OF[opcode], word)])];
     let insn = read_fields(row, word);
-    let links_itself = insn.kind == Kind::Jalr && insn.b == LINK_REGISTER;
+    // "l.jalr naming r9, is kind 1"
+    let links_itself = insn.kind == Kind::Jalr && insn.b == Reg::R9;
     if word & row.mask != row.value || links_itself {
         ILLEGAL
     } else {
@@ -359,7 +408,7 @@ pub fn encode(entry: u64) -> u64 {
 /// "reserved bits are ignored".
 pub fn reserved_bits(kind: Kind) -> u32 {
     let row = &TABLE[kind as usize - 1];
-    let all = Insn { kind, d: 31, a: 31, b: 31, imm: u32::MAX };
+    let all = Insn::new(kind, 31, 31, 31, u32::MAX);
     !(row.mask | row.layout.write(all))
 }
 
@@ -372,12 +421,18 @@ impl Kind {
 }
 
 impl Insn {
+    /// A form from numbers written down; each register's is below 32.
+    pub fn new(kind: Kind, d: u8, a: u8, b: u8, imm: u32) -> Insn {
+        let register = |number| Reg::new(number).expect("a register's number is below 32");
+        Insn { kind, d: register(d), a: register(a), b: register(b), imm }
+    }
+
     /// "bits 63-56 kind, 46-42 D, 41-37 A, 36-32 B, 31-0 immediate"
     pub fn entry(self) -> u64 {
         (self.kind as u64) << 56
-            | u64::from(self.d) << 42
-            | u64::from(self.a) << 37
-            | u64::from(self.b) << 32
+            | u64::from(self.d.0) << 42
+            | u64::from(self.a.0) << 37
+            | u64::from(self.b.0) << 32
             | u64::from(self.imm)
     }
 
@@ -386,9 +441,9 @@ impl Insn {
     pub fn from_entry(entry: u64) -> Insn {
         Insn {
             kind: Kind::from_number((entry >> 56) as u8).unwrap_or(Kind::Illegal),
-            d: (entry >> 42 & 0x1f) as u8,
-            a: (entry >> 37 & 0x1f) as u8,
-            b: (entry >> 32 & 0x1f) as u8,
+            d: Reg::cut(entry, 42, Reg::R31),
+            a: Reg::cut(entry, 37, Reg::R31),
+            b: Reg::cut(entry, 32, Reg::R31),
             imm: entry as u32,
         }
     }

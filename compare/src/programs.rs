@@ -49,6 +49,42 @@ pub fn systematic_words(rng: &mut Rng) -> Vec<u32> {
     words
 }
 
+/// The lowest bit of D, A and B in a word, and in an entry.
+const FIELDS: [(u32, u32); 3] = [(21, 42), (16, 37), (11, 32)];
+
+/// Words of every kind with every value at each place of a register's number,
+/// the other free bits being all 0, all 1 or random.
+pub fn field_words(rng: &mut Rng) -> Vec<u32> {
+    let mut words = Vec::new();
+    for row in &TABLE {
+        for (place, _) in FIELDS {
+            for value in 0..32 {
+                for rest in [0, u32::MAX, rng.next_u32()] {
+                    let free = rest & !(31 << place) | value << place;
+                    words.push(row.value | free & !row.mask);
+                }
+            }
+        }
+    }
+    words
+}
+
+/// Entries of every kind with every value of D, A and B, whether the kind has
+/// the field or not, and with every value of bits 55-47, which are above D.
+pub fn field_entries(rng: &mut Rng) -> Vec<u64> {
+    let mut entries = Vec::new();
+    for row in &TABLE {
+        for free in [0, u32::MAX, rng.next_u32()] {
+            let entry = isa::decode(row.value | free & !row.mask);
+            for (_, place) in FIELDS {
+                entries.extend((0..32).map(|value| entry & !(31 << place) | value << place));
+            }
+            entries.extend((0..512).map(|above| entry | above << 47));
+        }
+    }
+    entries
+}
+
 /// An entry mostly near one that some word decodes to.
 pub fn any_entry(rng: &mut Rng) -> u64 {
     let entry = isa::decode(any_word(rng));
@@ -111,7 +147,7 @@ fn pick_kind(rng: &mut Rng, first: Kind, last: Kind) -> Kind {
 }
 
 fn insn(kind: Kind, d: u8, a: u8, b: u8, imm: u32) -> Insn {
-    Insn { kind, d, a, b, imm }
+    Insn::new(kind, d, a, b, imm)
 }
 
 fn arithmetic(rng: &mut Rng) -> Insn {

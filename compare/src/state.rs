@@ -1,5 +1,7 @@
 //! One core, and the sheet of 44 words it is lent on ("Sheets"; 02, note 2).
 
+use crate::isa::Reg;
+
 /// Words on one core's sheet.
 pub const SHEET_WORDS: usize = 44;
 
@@ -103,14 +105,14 @@ impl Core {
 
     /// A register's value.
     #[inline]
-    pub fn get(&self, number: u8) -> u32 {
-        self.regs[usize::from(number & 31)]
+    pub fn get(&self, register: Reg) -> u32 {
+        self.regs[register.index()]
     }
 
     /// "Writes to r0 are dropped."
     #[inline]
-    pub fn set(&mut self, number: u8, value: u32) {
-        self.regs[usize::from(number & 31)] = value;
+    pub fn set(&mut self, register: Reg, value: u32) {
+        self.regs[register.index()] = value;
         self.regs[0] = 0;
     }
 

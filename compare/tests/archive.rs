@@ -6,6 +6,7 @@
 
 mod common;
 
+use common::fields;
 use compare::battery;
 use compare::check::{self, Codec, BY_HISTORY};
 use compare::engine::Archive;
@@ -94,6 +95,12 @@ fn random_entries() {
     for seed in 0..8 {
         battery::entries(&BY_HISTORY, &Archive, seed, 1_000_000).unwrap();
     }
+}
+
+/// 02, note 3: D, A and B in every value, and just outside their places.
+#[test]
+fn register_fields() {
+    fields::ask(&Archive).expect("archive");
 }
 
 /// Entries of words of every kind with each one bit changed.

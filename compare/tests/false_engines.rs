@@ -4,18 +4,22 @@
 mod common;
 
 use common::wrong_step::{assert_passed, assert_stopped, wrong, WrongStep};
+use common::{list, show};
 use compare::battery::{self, Pair};
 use compare::card;
-use compare::check::{Codec, Engine, BY_CACHE, BY_HISTORY};
-use compare::isa::Kind;
+use compare::check::{self, Codec, Engine, BY_CACHE, BY_HISTORY};
+use compare::isa::{Kind, Reg};
 use compare::state::{place, OV, OVE, SHEET_WORDS};
 
+type Decode = fn(u32) -> u64;
+type Encode = fn(u64) -> u64;
 type Plain = fn(&mut [u8], &mut [u32], &[u8]) -> u64;
 type Fast = fn(&mut [u8], &mut [u32], &[u8], &mut [u64]) -> u64;
 
 struct False {
     name: &'static str,
-    decode: fn(u32) -> u64,
+    decode: Decode,
+    encode: Encode,
     plain: Plain,
     fast: Fast,
 }
@@ -28,7 +32,7 @@ impl Codec for False {
         (self.decode)(word)
     }
     fn encode(&self, entry: u64) -> u64 {
-        BY_CACHE.encode(entry)
+        (self.encode)(entry)
     }
 }
 
@@ -51,6 +55,7 @@ impl Engine for False {
 const TRUE: False = False {
     name: "true",
     decode: |word| BY_CACHE.decode(word),
+    encode: |entry| BY_CACHE.encode(entry),
     plain: |memory, sheets, schedule| BY_CACHE.plain_run(memory, sheets, schedule),
     fast: |memory, sheets, schedule, table| BY_CACHE.fast_run(memory, sheets, schedule, table),
 };
@@ -169,7 +174,9 @@ const WRONG_SUMS: [WrongStep; 10] = [
     wrong("l.addic never raises", SUMS, |taken| {
         taken.end(taken.raised && taken.insn.kind != Kind::Addic)
     }),
-    wrong("does not raise for r0", SUMS, |taken| taken.end(taken.raised && taken.insn.d != 0)),
+    wrong("does not raise for r0", SUMS, |taken| {
+        taken.end(taken.raised && taken.insn.d != Reg::R0)
+    }),
     wrong("raises without OVE", SUMS, |taken| taken.end(taken.after.has(OV))),
     wrong("raises by the OV there was", SUMS, |taken| {
         taken.end(taken.before.has(OV) && taken.before.has(OVE))
@@ -300,8 +307,6 @@ fn read_as(word: u32, mask: u32, value: u32, other: impl Fn(u32) -> u64) -> u64 
     }
 }
 
-type Decode = fn(u32) -> u64;
-
 /// Note 2's rows, each read wrongly in one way.
 const WRONG_ROWS: [(&str, Decode); 8] = [
     ("takes opcode 31 with bits 3-0 = 3 for l.mac", |word| {
@@ -339,6 +344,96 @@ fn wrong_rows_are_stopped() {
     for (name, decode) in WRONG_ROWS {
         let engine = False { name, decode, ..TRUE };
         assert!(Pair { one: &BY_CACHE, other: &engine }.words(1, 100).is_err(), "{name}");
+    }
+}
+
+/// A decoder that cuts so many bits for one field, of kinds that have it.
+fn cut(word: u32, field: usize, bits: u32) -> u64 {
+    let entry = BY_CACHE.decode(word);
+    if !list::has_fields(entry >> 56)[field] {
+        return entry;
+    }
+    let number = u64::from(word >> list::IN_WORD[field] & ((1 << bits) - 1));
+    entry & !(31 << list::IN_ENTRY[field]) | number << list::IN_ENTRY[field]
+}
+
+/// A decoder that looks at so many bits of B to see whether l.jalr names r9.
+fn jalr_by(word: u32, bits: u32) -> u64 {
+    read_as(word, 0xfc00_0000, 0x4800_0000, |word| match word >> 11 & ((1 << bits) - 1) {
+        9 => 1 << 56,
+        _ => 15 << 56 | u64::from(word >> 11 & 31) << 32,
+    })
+}
+
+/// An encoder that does not look at some bits of entries whose kind has D or
+/// not.
+fn encode_without(entry: u64, bits: u64, has_d: bool) -> u64 {
+    if list::has_fields(entry >> 56)[0] == has_d {
+        BY_CACHE.encode(entry & !bits)
+    } else {
+        BY_CACHE.encode(entry)
+    }
+}
+
+const fn decoder(name: &'static str, decode: Decode) -> False {
+    False { name, decode, ..TRUE }
+}
+
+const fn encoder(name: &'static str, encode: Encode) -> False {
+    False { name, encode, ..TRUE }
+}
+
+/// Bits 55-47 of an entry, which are above D.
+const ABOVE_D: u64 = 0x1ff << 47;
+
+/// Wrong in the number of a register, each in one way. A sixth bit of A does not
+/// show where the kind has D: it is D's lowest in the word and in the entry
+/// alike. So it is with B and A.
+const WRONG_REGISTERS: [False; 17] = [
+    decoder("cuts six bits for D", |word| cut(word, 0, 6)),
+    decoder("takes a whole byte for D", |word| cut(word, 0, 8)),
+    decoder("cuts four bits for D", |word| cut(word, 0, 4)),
+    decoder("cuts six bits for A", |word| cut(word, 1, 6)),
+    decoder("takes a whole byte for A", |word| cut(word, 1, 8)),
+    decoder("packs A into the byte after B", |word| cut(word, 1, 3)),
+    decoder("cuts six bits for B", |word| cut(word, 2, 6)),
+    decoder("takes a whole byte for B", |word| cut(word, 2, 8)),
+    decoder("cuts four bits for B", |word| cut(word, 2, 4)),
+    decoder("looks for r9 in six bits", |word| jalr_by(word, 6)),
+    decoder("looks for r9 in four bits", |word| jalr_by(word, 4)),
+    encoder("takes six bits for D and masks them", |entry| encode_without(entry, 1 << 47, true)),
+    encoder("takes a byte for D and masks it", |entry| encode_without(entry, 7 << 47, true)),
+    encoder("masks D where there is none", |entry| encode_without(entry, 31 << 42, false)),
+    encoder("drops bits 55-47 where D is", |entry| encode_without(entry, ABOVE_D, true)),
+    encoder("drops bits 55-47 where no D is", |entry| encode_without(entry, ABOVE_D, false)),
+    encoder("writes l.jalr r9", |entry| match entry {
+        0x0f00_0009_0000_0000 => 0x4800_4800,
+        _ => BY_CACHE.encode(entry),
+    }),
+];
+
+/// Asks again for the word or entry that a message names.
+fn ask_again(pair: &Pair, text: &str) -> Result<(), String> {
+    let mut parts = text.split([' ', ':']).skip_while(|part| !["word", "entry"].contains(part));
+    let (what, digits) = (parts.next(), parts.next().expect("a number"));
+    let number = u64::from_str_radix(digits, 16).expect("hexadecimal digits");
+    match what {
+        Some("word") => check::same_word(pair.one, pair.other, number as u32),
+        _ => check::same_entry(pair.one, pair.other, number),
+    }
+}
+
+/// 02, note 3: "carried as bytes, each shown to be below 32. Entries, answers
+/// and refusals remain".
+#[test]
+fn wrong_register_numbers_are_stopped() {
+    for engine in &WRONG_REGISTERS {
+        let pair = Pair { one: &BY_CACHE, other: engine };
+        let asked = pair.words(1, 100).and_then(|()| pair.entries(1, 100));
+        let text = asked.expect_err(engine.name);
+        show(&text);
+        assert!(text.starts_with("seed 1: "), "{text}");
+        assert!(ask_again(&pair, &text).is_err(), "{}: {text}", engine.name);
     }
 }
 

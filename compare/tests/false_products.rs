@@ -7,6 +7,7 @@ use common::wrong_step::{assert_passed, assert_stopped, wrong, Taken, WrongStep}
 use compare::battery::Pair;
 use compare::check::BY_HISTORY;
 use compare::isa::Kind::{self, *};
+use compare::isa::Reg;
 use compare::state::{CY, OV, OVE};
 
 const SIGNED: &[Kind] = &[Mul, Muli];
@@ -202,7 +203,7 @@ const WRONG_ACCUMULATORS: [WrongStep; 16] = [
         taken.after.set_accumulator(taken.before.accumulator())
     }),
     wrong("l.macrc to r0 clears neither", &[Macrc], |taken| {
-        if taken.insn.d == 0 {
+        if taken.insn.d == Reg::R0 {
             taken.after.set_accumulator(taken.before.accumulator())
         }
     }),
@@ -242,7 +243,9 @@ const WRONG_SPECIAL: [WrongStep; 4] = [
 ];
 
 const WRONG_EXCEPTIONS: [WrongStep; 8] = [
-    wrong("does not raise for r0", RAISING, |taken| taken.end(taken.raised && taken.insn.d != 0)),
+    wrong("does not raise for r0", RAISING, |taken| {
+        taken.end(taken.raised && taken.insn.d != Reg::R0)
+    }),
     wrong("a product raises before rD is written", SIGNED, |taken| {
         taken.if_raised(|after, before| after.regs = before.regs)
     }),

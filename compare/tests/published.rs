@@ -11,7 +11,7 @@ use compare::card::reset_sheets;
 use compare::cases::Case;
 use compare::check;
 use compare::image;
-use compare::isa::{Insn, Kind, KINDS};
+use compare::isa::{Insn, Kind, Reg, KINDS};
 use compare::rng::Rng;
 use compare::state::place::{DELAY, EEAR, EPCR, ESR, LINK, LINK_ADDRESS, MODE, PC, SR, TARGET};
 use compare::state::place::{MACHI, MACLO};
@@ -236,7 +236,9 @@ fn read_line(line: &str) -> Option<Assembled<'_>> {
     let mut parts = line.splitn(7, ' ');
     let word = u32::from_str_radix(parts.next()?, 16).ok()?;
     let mut small = || parts.next()?.parse::<u8>().ok();
-    let (kind, d, a, b) = (Kind::from_number(small()?)?, small()?, small()?, small()?);
+    let kind = Kind::from_number(small()?)?;
+    let mut register = || Reg::new(small()?);
+    let (d, a, b) = (register()?, register()?, register()?);
     let imm = u32::from_str_radix(parts.next()?, 16).ok()?;
     Some(Assembled { word, form: Insn { kind, d, a, b, imm }, text: parts.next()? })
 }

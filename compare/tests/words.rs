@@ -1,6 +1,10 @@
 //! Decoding and encoding: rows, round trips, damaged entries.
 
-use compare::isa::{self, Insn, Kind, ILLEGAL_WORD, KINDS, NO_WORD, TABLE};
+mod common;
+
+use common::{fields, list};
+use compare::check::BY_CACHE;
+use compare::isa::{self, Insn, Kind, Reg, ILLEGAL_WORD, KINDS, NO_WORD, TABLE};
 use compare::programs;
 use compare::rng::Rng;
 
@@ -52,76 +56,6 @@ fn rows_of_document_02_alone() {
     }
 }
 
-/// Bits `high` to `low` of a word.
-fn bits(word: u32, high: u32, low: u32) -> u32 {
-    word >> low & ((1 << (high - low + 1)) - 1)
-}
-
-/// The kind of a word, read off document 01's list and note 2 of document 02.
-fn kind_by_list(word: u32) -> u32 {
-    let opcode = word >> 26;
-    match opcode {
-        0x00..=0x01 => 2 + opcode,
-        0x03..=0x04 => 1 + opcode,
-        0x05 if bits(word, 25, 24) == 1 => 6,
-        0x06 if bits(word, 16, 16) == 0 => 7,
-        0x06 => 88,
-        0x08 => match bits(word, 25, 16) {
-            0x000 => 8,
-            0x100 => 9,
-            0x200 => 10,
-            0x280 => 11,
-            0x300 => 12,
-            _ => 1,
-        },
-        0x09 => 13,
-        0x11 => 14,
-        0x12 if bits(word, 15, 11) != 9 => 15,
-        0x13 => 85,
-        0x1b => 16,
-        0x21..=0x2b => 17 + opcode - 0x21,
-        0x2c => 81,
-        0x2d => 28,
-        0x2e => 29 + bits(word, 7, 6),
-        0x2f => set_flag_by_list(word, 33),
-        0x30 => 43,
-        0x31 if matches!(bits(word, 3, 0), 1 | 2) => 85 + bits(word, 3, 0),
-        0x33 => 44,
-        0x35..=0x37 => 45 + opcode - 0x35,
-        0x38 => register_kind_by_list(word),
-        0x39 => set_flag_by_list(word, 67),
-        0x3e if bits(word, 12, 11) != 0 => 76 + bits(word, 12, 11),
-        _ => 1,
-    }
-}
-
-/// "Set-flag order, by bits 25-21"
-fn set_flag_by_list(word: u32, first: u32) -> u32 {
-    match bits(word, 25, 21) {
-        relation @ 0..=5 => first + relation,
-        relation @ 0xa..=0xd => first + 6 + relation - 0xa,
-        _ => 1,
-    }
-}
-
-/// "opcode 38 by bits 3-0"
-fn register_kind_by_list(word: u32) -> u32 {
-    let (two, four) = (bits(word, 9, 8), bits(word, 9, 6));
-    match bits(word, 3, 0) {
-        low @ 0..=5 if two == 0 => 48 + low,
-        0x6 if two == 3 => 80,
-        0x8 if four <= 3 => 54 + four,
-        0x9 if two == 3 => 83,
-        0xa if two == 3 => 84,
-        0xb if two == 3 => 82,
-        0xc if four <= 3 => 58 + four,
-        0xd if four <= 1 => 62 + four,
-        0xe if two == 0 => 64,
-        0xf if two <= 1 => 65 + two,
-        _ => 1,
-    }
-}
-
 #[test]
 fn kinds_by_the_papers_list() {
     let mut rng = Rng::new(7);
@@ -129,7 +63,7 @@ fn kinds_by_the_papers_list() {
     words.extend((0..200_000).map(|_| programs::any_word(&mut rng)));
     words.extend((0..200_000).map(|_| rng.next_u32()));
     for word in words {
-        assert_eq!(isa::decode(word) >> 56, u64::from(kind_by_list(word)), "{word:08x}");
+        assert_eq!(isa::decode(word) >> 56, u64::from(list::kind_of(word)), "{word:08x}");
     }
 }
 
@@ -176,47 +110,13 @@ fn reserved_bits_do_not_matter() {
     }
 }
 
-/// Whether some word decodes to an entry, by document 01's words on fields and
-/// the layouts of note 2 of document 02.
-fn some_word_has(entry: u64) -> bool {
-    let insn = Insn::from_entry(entry);
-    let kind = entry >> 56;
-    if kind == 0 || kind > 88 || entry >> 47 & 0x1ff != 0 {
-        return false;
-    }
-    let (uses_d, uses_a, uses_b) = match kind {
-        1..=6 | 8..=13 => (false, false, false),
-        7 | 88 => (true, false, false),
-        14 | 15 => (false, false, true),
-        16..=32 | 58..=63 | 65 | 66 | 81 => (true, true, false),
-        33..=42 | 77..=79 | 85 => (false, true, false),
-        43..=47 | 67..=76 | 86 | 87 => (false, true, true),
-        _ => (true, true, true),
-    };
-    let signed = |bits: u32| {
-        let bias = 1u32 << (bits - 1);
-        insn.imm.wrapping_add(bias) < bias << 1
-    };
-    let imm = match kind {
-        2..=5 => signed(28) && insn.imm.is_multiple_of(4),
-        6..=9 | 25 | 26 | 28 | 43 => insn.imm < 0x1_0000,
-        16..=24 | 27 | 33..=42 | 44..=47 | 77..=79 | 81 | 85 => signed(16),
-        29..=32 => insn.imm < 32,
-        _ => insn.imm == 0,
-    };
-    imm && (uses_d || insn.d == 0)
-        && (uses_a || insn.a == 0)
-        && (uses_b || insn.b == 0)
-        && !(kind == 15 && insn.b == 9)
-}
-
 #[test]
 fn the_encoder_turns_back_what_no_word_has_and_only_that() {
     let mut rng = Rng::new(5);
     for _ in 0..1_000_000 {
         let entry = programs::any_entry(&mut rng);
         let word = isa::encode(entry);
-        if some_word_has(entry) {
+        if list::some_word_has(entry) {
             assert!(word < NO_WORD, "entry {entry:016x} is refused");
             assert_eq!(isa::decode(word as u32), entry, "entry {entry:016x}");
         } else {
@@ -234,10 +134,29 @@ fn every_single_bit_of_a_form() {
             for bit in 0..64 {
                 let near = entry ^ 1 << bit;
                 let refused = isa::encode(near) == NO_WORD;
-                assert_eq!(refused, !some_word_has(near), "entry {near:016x}");
+                assert_eq!(refused, !list::some_word_has(near), "entry {near:016x}");
             }
         }
     }
+}
+
+/// 02, note 3: "carried as bytes, each shown to be below 32".
+#[test]
+fn a_register_is_a_byte_below_32() {
+    assert_eq!((size_of::<Reg>(), size_of::<Insn>()), (1, 8));
+    for number in 0..=255 {
+        let register = Reg::new(number).map(Reg::number);
+        assert_eq!(register, (number < 32).then_some(number));
+    }
+    for (entry, number) in [(u64::MAX, 31), (0xff00_8000_ffff_ffff, 0)] {
+        let insn = Insn::from_entry(entry);
+        assert_eq!([insn.d, insn.a, insn.b].map(Reg::number), [number; 3], "{entry:016x}");
+    }
+}
+
+#[test]
+fn register_fields() {
+    fields::ask(&BY_CACHE).expect("this engine");
 }
 
 #[test]

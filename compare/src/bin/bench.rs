@@ -42,7 +42,7 @@ enum Unit {
 }
 
 fn word(kind: Kind, d: u8, a: u8, b: u8, imm: i32) -> u32 {
-    let word = isa::encode(Insn { kind, d, a, b, imm: imm as u32 }.entry());
+    let word = isa::encode(Insn::new(kind, d, a, b, imm as u32).entry());
     assert_ne!(word, isa::NO_WORD, "{kind:?}");
     word as u32
 }

@@ -2,6 +2,8 @@
 //! do with lines to show and with disagreements.
 #![allow(dead_code)]
 
+pub mod fields;
+pub mod list;
 pub mod products;
 pub mod registration;
 pub mod sums;
@@ -64,8 +66,7 @@ impl Bench {
 
 /// A word from its fields; the test fails if there is none.
 pub fn asm(kind: Kind, d: u8, a: u8, b: u8, imm: u32) -> u32 {
-    let entry = Insn { kind, d, a, b, imm }.entry();
-    let word = isa::encode(entry);
+    let word = isa::encode(Insn::new(kind, d, a, b, imm).entry());
     assert_ne!(word, isa::NO_WORD, "no word for {kind:?} {d} {a} {b} {imm:x}");
     word as u32
 }

@@ -3,6 +3,7 @@
 use super::show;
 use super::watch::Seen;
 use compare::isa::Kind::{self, *};
+use compare::isa::Reg;
 use compare::state::{CY, OV, OVE};
 use std::collections::BTreeMap;
 
@@ -149,7 +150,7 @@ impl Products {
             &[
                 (RAISED, raised),
                 (RAISED_IN_SLOT, raised && seen.before.delay),
-                (RAISED_TO_R0, raised && seen.insn.d == 0),
+                (RAISED_TO_R0, raised && seen.insn.d == Reg::R0),
                 (OV_GOES, seen.before.has(OV) && !seen.after.has(OV)),
             ],
         );
@@ -224,7 +225,7 @@ impl Products {
             &[
                 (MACLO_MOVED, low),
                 (MACHI_CLEARED, high),
-                (TO_R0, seen.insn.d == 0 && high && low),
+                (TO_R0, seen.insn.d == Reg::R0 && high && low),
                 (IN_SLOT, seen.before.delay),
             ],
         );

@@ -5,12 +5,15 @@ ghost use lib.Dec.{eqb};
 ghost use Rattle.bits.specs.Choice.{if_then_else_};
 ghost use Rattle.isa.specs.Groups.{kinds};
 ghost use Rattle.isa.specs.InstructionSet.{decode as decodeOf, immediate};
-ghost use Rattle.isa.specs.Inner.{Registers, kindOf, kindIn, compareKind, formOf, gathered, fieldsIn};
+ghost use Rattle.isa.specs.Register.{Register, Registers};
+ghost use Rattle.isa.specs.Inner.{kindOf, kindIn, compareKind, formOf, gathered, fieldsIn};
 use isa::entry::Fields;
 use isa::groups;
 use isa::kinds::Form;
 use isa::kinds::Place;
 use isa::kinds::Shape;
+use isa::register::number;
+use isa::register::present;
 
 // One of two kinds, by whether a field has one value.
 fn kind_by(x: u32, value: u32, kind: u8, otherwise: u8) -> u8
@@ -32,6 +35,14 @@ fn system_kind(x: u32) -> u8
         0x300 => 12, // l.csync
         _ => 1,
     }
+}
+
+// Opcode 12, by the register that it names: l.jalr, which may not name r9.
+fn jalr_kind(b: u8) -> u8
+    requires { ⌜ Register b ⌝ }
+    ensures { λ r. ⌜ r ≡ kindIn 0x12 11 b ⌝ }
+{
+    if b == 9 { 1 } else { 15 }
 }
 
 // Opcode 2e, by bits 7-6.
@@ -133,7 +144,7 @@ fn kind_of(w: u32) -> u8
         0x08 => system_kind(w / 0x1_0000 % 1024),
         0x09 => 13, // l.rfe
         0x11 => 14, // l.jr
-        0x12 => kind_by(w / 0x800 % 32, 9, 1, 15), // l.jalr, which may not name r9
+        0x12 => jalr_kind(number(w / 0x800)),
         0x13 => 85, // l.maci
         0x1b => 16, // l.lwa
         0x21..=0x26 => (opcode as u8) - 16, // l.lwz, lws, lbz, lbs, lhz, lhs
@@ -178,13 +189,6 @@ fn extended(form: Form, n: u32) -> u32
     }
 }
 
-// The low five bits of x, if the kind has that register, else 0.
-fn register(has: bool, x: u32) -> u8
-    ensures { λ r. ⌜ (r ≡ (if has then x % 32 else 0)) × (r < 32) ⌝ }
-{
-    if has { (x % 32) as u8 } else { 0 }
-}
-
 // The fields that a word has by its kind.
 fn fields(shape: Shape, w: u32) -> Fields
     ensures { λ r. ⌜ (r ≡ fieldsIn shape w) × Registers r ⌝ }
@@ -192,9 +196,9 @@ fn fields(shape: Shape, w: u32) -> Fields
     let place = shape.place;
     let form = shape.form;
     Fields {
-        d: register(shape.d, w / 0x20_0000),
-        a: register(shape.a, w / 0x1_0000),
-        b: register(shape.b, w / 0x800),
+        d: present(shape.d, number(w / 0x20_0000)),
+        a: present(shape.a, number(w / 0x1_0000)),
+        b: present(shape.b, number(w / 0x800)),
         immediate: extended(form, immediate_bits(place, w)),
     }
 }

@@ -1,15 +1,16 @@
 // From an entry to a word that decodes to it, if there is one.
 ghost use mathlib.Core.Path.{_≡_};
 ghost use Prim.Native.Nat.{_<_, _^_};
-ghost use Rattle.bits.specs.Choice.{if_then_else_};
 ghost use Rattle.isa.specs.InstructionSet.{immediateBits, candidate};
-ghost use Rattle.isa.specs.Inner.{Registers, formOf, scattered, bitsOf};
+ghost use Rattle.isa.specs.Register.{Registers};
+ghost use Rattle.isa.specs.Inner.{formOf, scattered, bitsOf};
 ghost use Rattle.codec.specs.Encoding.{Encodes};
 use isa::entry::Fields;
 use isa::groups;
 use isa::kinds::Form;
 use isa::kinds::Place;
 use isa::kinds::Shape;
+use isa::register::present;
 
 pub enum Encoded {
     Word(u32),
@@ -41,14 +42,6 @@ fn placed(place: Place, n: u32) -> u32
     }
 }
 
-// x if the kind has that register, else 0.
-fn present(has: bool, x: u8) -> u32
-    requires { ⌜ x < 32 ⌝ }
-    ensures { λ r. ⌜ (r ≡ (if has then x else 0)) × (r < 32) ⌝ }
-{
-    if has { x as u32 } else { 0 }
-}
-
 // The bits that these fields take in a word of that shape.
 fn field_word(shape: Shape, f: Fields) -> u32
     requires { ⌜ Registers f ⌝ }
@@ -56,9 +49,9 @@ fn field_word(shape: Shape, f: Fields) -> u32
 {
     let place = shape.place;
     let form = shape.form;
-    present(shape.d, f.d) * 0x20_0000
-        + present(shape.a, f.a) * 0x1_0000
-        + present(shape.b, f.b) * 0x800
+    (present(shape.d, f.d) as u32) * 0x20_0000
+        + (present(shape.a, f.a) as u32) * 0x1_0000
+        + (present(shape.b, f.b) as u32) * 0x800
         + placed(place, field_bits(form, f.immediate))
 }
 

@@ -11,7 +11,7 @@ use borrow.Rule.Slice.PartMut.{putMid}
 use lib.Seq.{length-take-le, getD-take, getD-drop, set-append-left}
 use Rattle.bits.proofs.Lists.{set-append-add}
 use Rattle.bits.specs.Choice.{if_then_else_}
-use Rattle.isa.specs.Inner.{Registers}
+use Rattle.isa.specs.Register.{Registers}
 use Rattle.isa.specs.declared.entry.Fields.{Fields}
 use Rattle.effect.specs.State.{stateWords, pcAt, delayAt, targetAt, srAt, epcrAt, eearAt, esrAt, linkAt, linkAddressAt, modeAt, machiAt, macloAt}
 use Rattle.effect.specs.declared.types.Effect.{Effect}

@@ -2,16 +2,25 @@
 ghost use mathlib.Core.Path.{_≡_};
 ghost use Prim.Native.Nat.{_+_, _*_, _≤_, _<_};
 ghost use lib.ListN.{length};
-ghost use Rattle.isa.specs.Inner.{Registers};
+ghost use Rattle.isa.specs.Register.{Register, Registers};
 ghost use Rattle.effect.specs.State.{stateWords};
 ghost use Rattle.commit.specs.Commit.{inputs, noFields};
-ghost use Rattle.commit.specs.Inner.{ownInputs, entryInputs, OwnState};
+ghost use Rattle.commit.specs.Inner.{ownWord, ownInputs, entryInputs, OwnState};
 use effect::state;
 use effect::types::Flow;
 use effect::types::Inputs;
 use effect::types::Link;
 use isa::entry::Fields;
 use product::Accumulator;
+
+// The value of a register.
+fn register(own: &[u32], n: u8) -> u32
+    requires { ⌜ stateWords ≤ length (now own) ⌝ }
+    requires { ⌜ Register n ⌝ }
+    ensures { λ r. ⌜ r ≡ ownWord (now (own .entry)) n ⌝ }
+{
+    own[n as usize]
+}
 
 // What an instruction with the fields f reads of its core's own state.
 fn inputs_of(own: &[u32], core: usize, f: Fields) -> Inputs
@@ -21,9 +30,9 @@ fn inputs_of(own: &[u32], core: usize, f: Fields) -> Inputs
 {
     Inputs {
         core: core as u32,
-        d: f.d as u32,
-        a: own[f.a as usize],
-        b: own[f.b as usize],
+        d: f.d as u32, // from here on a place of the state
+        a: register(own, f.a),
+        b: register(own, f.b),
         immediate: f.immediate,
         flow: Flow {
             pc: own[state::PC],

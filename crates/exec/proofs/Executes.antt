@@ -8,6 +8,7 @@ use borrow.Rule.Slice.PartMut.{putMid}
 use lib.ListN.{length, take, drop}
 use Rattle.bits.specs.Word.{field}
 use Rattle.isa.specs.Entry.{fieldsOf}
+use Rattle.isa.proofs.Registers.{fields-registers}
 use Rattle.effect.specs.State.{stateWords}
 use Rattle.effect.specs.declared.types.Inputs.{Inputs}
 use Rattle.effect.specs.declared.types.Board.{Board}
@@ -19,7 +20,6 @@ use Rattle.commit.proofs.Commits.{performed-as}
 use Rattle.commit.proofs.Own.{mid-inputs, mid-committed}
 use Rattle.semantics.specs.Meaning.{meaning, effectOf}
 use Rattle.lawful.proofs.Sound.{meaning-sound}
-use Rattle.lawful.proofs.Instruction.{fields-registers}
 use Rattle.exec.specs.Inner.{Executed}
 
 module _ (board : Board) (mem s : List ℕ) (core entry : ℕ) (h : core * stateWords + stateWords ≤ length s) (f : entry < 2 ^ 64) (n : ℕ) (q : n ≡ stateWords) where

@@ -2,6 +2,7 @@
 use mathlib.Core.List.{List}
 use mathlib.Core.Path.{_≡_, subst}
 use Prim.Native.Nat.{ℕ, _<_}
+use Rattle.isa.proofs.Registers.{fields-registers}
 use Rattle.effect.specs.State.{stateWords}
 use Rattle.effect.specs.Effect.{advances}
 use Rattle.effect.specs.Inner.{effectBy, goesOn}
@@ -19,7 +20,6 @@ use Rattle.commit.proofs.Commits.{fits-as, performed-as}
 use Rattle.semantics.specs.Meaning.{meaning}
 use Rattle.lawful.specs.Inner.{Sound, SoundStore, none, some}
 use Rattle.lawful.proofs.Sound.{meaning-sound}
-use Rattle.lawful.proofs.Instruction.{fields-registers}
 use Rattle.exec.specs.Inner.{Performs}
 
 -- what a sound effect writes can be committed

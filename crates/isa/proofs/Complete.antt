@@ -12,6 +12,7 @@ use Rattle.bits.specs.Word.{field}
 use Rattle.bits.proofs.Cases.{by-equality}
 use Rattle.bits.proofs.Tests.{and-left, and-right}
 use Rattle.isa.specs.InstructionSet.{Field, D, A, B, I, Row, rows, illegal, fits, firstFit, rowOf, kindRow, width, read, immediate, immediateBits, pack, entry, decode, value, fill, wordFor, candidate}
+use Rattle.isa.specs.Register.{Register}
 use Rattle.isa.specs.Inner.{kindOf, packed, fieldsIn}
 use Rattle.isa.specs.declared.kinds.Shape.{Shape}
 use Rattle.isa.proofs.Immediates.{form-width, immediate-lt, immediate-back}
@@ -52,7 +53,7 @@ own-entry w t d =
 
 -- ---- an entry's parts
 
-module _ (k d a b n : ℕ) (hd : d < 32) (ha : a < 32) (hb : b < 32) (hn : n < 2 ^ 32) where
+module _ (k d a b n : ℕ) (hd : Register d) (ha : Register a) (hb : Register b) (hn : n < 2 ^ 32) where
   pack-kind : k < 256 → field (pack k d a b n) 56 8 ≡ k
   pack-kind h = omega arith
 
@@ -112,7 +113,7 @@ first-sized w =
     }
 
 module _ (r : Row) (w : ℕ) (s : Sized r) where
-  register-lt : (f : Field) → width f (r .bits) ≤ 5 → read f (r .bits) w < 32
+  register-lt : (f : Field) → width f (r .bits) ≤ 5 → Register (read f (r .bits) w)
   register-lt f h = let l : read f (r .bits) w < 2 ^ width f (r .bits) = read-lt f (r .bits) w in let m : 2 ^ width f (r .bits) ≤ 2 ^ 5 = pow-mono h in omega arith
 
   kept-lt : immediate (r .form) (read I (r .bits) w) < 2 ^ 32

@@ -2,7 +2,7 @@
 -- The instruction set itself is InstructionSet.antt; that these parts are its is proved (proofs/Rows.antt, Shapes.antt).
 use mathlib.Core.Bool.{Bool, true, false, _&&_}
 use mathlib.Core.List.{List, [], _∷_}
-use Prim.Native.Nat.{ℕ, _+_, _-_, _*_, _/_, _%_, _^_, _<_}
+use Prim.Native.Nat.{ℕ, _+_, _-_, _*_, _/_, _%_, _^_}
 use lib.Dec.{eqb, leb, ltb}
 use Rattle.bits.specs.Choice.{if_then_else_}
 use Rattle.bits.specs.Word.{field}
@@ -31,11 +31,6 @@ compareKind first x =
     if leb x 5 then first + x else
     if leb 10 x && leb x 13 then first + x - 4 else
     1
-
-pub record Registers (f : Fields) : Type 0 where
-  pub d : f .d < 32
-  pub a : f .a < 32
-  pub b : f .b < 32
 
 abbrev pub packed : ℕ → Fields → ℕ
 packed k f = pack k (f .d) (f .a) (f .b) (f .immediate)

@@ -1,5 +1,6 @@
 pub mod InstructionSet
 pub mod Groups
 pub mod Entry
+pub mod Register
 pub mod Vectors
 pub mod Inner

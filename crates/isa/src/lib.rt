@@ -2,4 +2,5 @@
 pub mod entry;
 pub mod groups;
 pub mod kinds;
+pub mod register;
 pub mod vectors;

@@ -9,8 +9,9 @@ use borrow.Author.Tests.{ltb-false}
 use Rattle.bits.specs.Word.{field}
 use Rattle.isa.specs.InstructionSet.{decode}
 use Rattle.isa.specs.Entry.{fieldsOf}
-use Rattle.isa.specs.Inner.{Registers}
+use Rattle.isa.specs.Register.{Register}
 use Rattle.isa.specs.declared.entry.Fields.{Fields}
+use Rattle.isa.proofs.Registers.{fields-registers}
 use Rattle.memory.specs.Memory.{stored, memoryWord}
 use Rattle.memory.proofs.Laws.{length-stored, other-word-kept}
 use Rattle.effect.specs.declared.types.Board.{Board}
@@ -25,10 +26,7 @@ use Rattle.lawful.proofs.Jumps.{decoded-jump}
 
 -- ---- what it reads
 
-pub fields-registers : (entry : ℕ) → Registers (fieldsOf entry)
-fields-registers entry = record { d = omega arith; a = omega arith; b = omega arith }
-
-pub inputs-lawful : {board : Board} (s : List ℕ) (core : ℕ) (f : Fields) → f .d < 32 → Accepted board s core → LawfulInputs (inputs s core f)
+pub inputs-lawful : {board : Board} (s : List ℕ) (core : ℕ) (f : Fields) → Register (f .d) → Accepted board s core → LawfulInputs (inputs s core f)
 unfolding inputs
 inputs-lawful s core f h a =
     record {

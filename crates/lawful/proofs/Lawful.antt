@@ -10,6 +10,7 @@ use lib.ListN.{length}
 use borrow.Author.Tests.{ltb-false}
 use Rattle.bits.specs.Word.{bit, word}
 use Rattle.bits.proofs.Cases.{if-law, if-both}
+use Rattle.isa.specs.Register.{Register}
 use Rattle.isa.specs.Vectors.{vector}
 use Rattle.isa.specs.declared.vectors.Cause.{Cause}
 use Rattle.isa.specs.declared.vectors.Cause.the-variants.{Bus, Alignment, Illegal, Range, Syscall, Trap}
@@ -153,16 +154,16 @@ module _ (x : Inputs) (i : LawfulInputs x) where
       (advances-lawful 0 0 _ (to-register (omega arith)) (divide-flags-lawful 1 (omega arith))))
       (advances-lawful (x .d) q _ (to-register (i .register)) (divide-flags-lawful 0 (omega arith)))
 
-  pub accumulating-lawful : (place v : ℕ) → place < 32 → (m : Accumulator) → Lawful (accumulating x place v m)
+  pub accumulating-lawful : (place v : ℕ) → Register place → (m : Accumulator) → Lawful (accumulating x place v m)
   accumulating-lawful place v h m = completed-lawful (to-register h) (i .sr-lawful) onward-lawful (i .link-lawful) is-running
 
-  jumping-lawful : (place v to : ℕ) → place < 32 → Multiple to → Lawful (jumping x place v to)
+  jumping-lawful : (place v to : ℕ) → Register place → Multiple to → Lawful (jumping x place v to)
   jumping-lawful place v to h m =
       completed-lawful (to-register h) (i .sr-lawful)
       (record { delay-bit = omega arith; pc-multiple = next-multiple 4 refl; target-multiple = m; no-target = λ e. absurd (omega arith) })
       (i .link-lawful) is-running
 
-  pub jump-lawful : (place v to : ℕ) → place < 32 → Multiple to → Lawful (jump x place v to)
+  pub jump-lawful : (place v to : ℕ) → Register place → Multiple to → Lawful (jump x place v to)
   unfolding jump
   jump-lawful place v to h m = if-both Lawful (inSlot x) (faults-lawful _ _) (jumping-lawful place v to h m)
 
@@ -171,7 +172,7 @@ module _ (x : Inputs) (i : LawfulInputs x) where
   branch-lawful m taken =
       jump-lawful 0 0 _ (omega arith) (if-both Multiple taken (next-multiple (x .immediate) m) (next-multiple 8 refl))
 
-  pub register-jump-lawful : (place v : ℕ) → place < 32 → Lawful (registerJump x place v)
+  pub register-jump-lawful : (place v : ℕ) → Register place → Lawful (registerJump x place v)
   unfolding registerJump
   register-jump-lawful place v h =
       if-both Lawful (inSlot x) (faults-lawful _ _)

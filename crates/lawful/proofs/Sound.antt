@@ -8,6 +8,7 @@ use native.Mathlib.Omega.{arith}
 use lib.Dec.{eqb, ltb}
 use lib.ListN.{length}
 use Rattle.bits.proofs.Cases.{if-both}
+use Rattle.isa.specs.Register.{Register}
 use Rattle.isa.specs.declared.vectors.Cause.{Cause}
 use Rattle.isa.specs.declared.vectors.Cause.the-variants.{Alignment}
 use Rattle.arith.specs.Bit.{isSet}
@@ -107,7 +108,7 @@ module _ (len : ℕ) (x : Inputs) where
   accumulating-sound place v h m = record { place-lt = h; sound-store = none refl }
 
   -- the destination is a register
-  module _ (d : x .d < 32) where
+  module _ (d : Register (x .d)) where
     pub result-sound : (f : Flagged) → Sound len (resultOrRaises x f)
     unfolding resultOrRaises
     result-sound f =
@@ -131,7 +132,7 @@ module _ (len : ℕ) (x : Inputs) where
 
 -- ---- every instruction
 
-sound-lines : (mem : List ℕ) (x : Inputs) → x .d < 32 → Lines (Sound (length mem)) Unit mem x
+sound-lines : (mem : List ℕ) (x : Inputs) → Register (x .d) → Lines (Sound (length mem)) Unit mem x
 sound-lines mem x d =
     let len = length mem in
     record {
@@ -158,6 +159,6 @@ sound-lines mem x d =
       of-special = special-sound len x;
     }
 
-module _ (board : Board) (mem : List ℕ) (x : Inputs) (d : x .d < 32) where
+module _ (board : Board) (mem : List ℕ) (x : Inputs) (d : Register (x .d)) where
   pub meaning-sound : (k : ℕ) → Sound (length mem) (meaning board mem k x)
   meaning-sound k = meaning-has (Sound (length mem)) Unit board mem x (sound-lines mem x d) k (λ _. tt)

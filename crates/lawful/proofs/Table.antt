@@ -9,6 +9,7 @@ use lib.ListN.{length}
 use borrow.Author.Tests.{eqb-true}
 use Rattle.bits.specs.Word.{bitAt}
 use Rattle.bits.proofs.Cases.{if-law, if-both}
+use Rattle.isa.specs.Register.{Register}
 use Rattle.isa.specs.Groups.{firstNopMovhi, firstControl, firstLoad, firstAddImmediate, firstImmediate, firstCompareImmediate, firstStore, firstArithmetic, firstLogic, firstCompare, firstCache, firstProduct, IsBranch}
 use Rattle.arith.specs.Status.{CY}
 use Rattle.arith.specs.declared.Flagged.{Flagged}
@@ -35,9 +36,9 @@ pub record Lines (P : Effect → Type 0) (J : Type 0) (mem : List ℕ) (x : Inpu
   pub of-divides : (q : ℕ) → P (divides x q)
   pub of-accumulates : (m : Accumulator) → P (accumulates x m)
   pub of-reads-accumulator : P (readsAccumulator x)
-  pub of-jump : J → (place v : ℕ) → place < 32 → P (jump x place v (relative x))
+  pub of-jump : J → (place v : ℕ) → Register place → P (jump x place v (relative x))
   pub of-branch : J → (taken : Bool) → P (branch x taken)
-  pub of-register-jump : (place v : ℕ) → place < 32 → P (registerJump x place v)
+  pub of-register-jump : (place v : ℕ) → Register place → P (registerJump x place v)
   pub of-return : P (returns x)
   pub of-load : (n : ℕ) (sign : Bool) → P (load x mem n sign)
   pub of-load-linked : P (loadLinked x mem)

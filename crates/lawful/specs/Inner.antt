@@ -2,6 +2,7 @@
 -- where an effect may write.
 use mathlib.Core.Path.{_≡_}
 use Prim.Native.Nat.{ℕ, _+_, _%_, _<_, _≤_}
+use Rattle.isa.specs.Register.{Register}
 use Rattle.arith.specs.Status.{allowed}
 use Rattle.memory.specs.Memory.{Width}
 use Rattle.effect.specs.State.{stateWords, pcAt, delayAt, targetAt, srAt, epcrAt, eearAt, esrAt, linkAt, linkAddressAt, modeAt, machiAt, macloAt, halted, running}
@@ -53,7 +54,7 @@ pub record LawfulState (board : Board) (core : ℕ) (g : ℕ → ℕ) : Type 0 w
 
 -- what an instruction reads obeys the rules, and its destination is a register
 pub record LawfulInputs (x : Inputs) : Type 0 where
-  pub register : x .d < 32
+  pub register : Register (x .d)
   pub flow-lawful : LawfulFlow (x .flow)
   pub link-lawful : LawfulLink (x .link)
   pub sr-lawful : Status (x .sr)
@@ -62,7 +63,7 @@ pub record LawfulInputs (x : Inputs) : Type 0 where
 
 -- the word that an effect writes at a place: a register, EPCR, EEAR, ESR, or MACHI or MACLO, which are free
 pub data LawfulWord : ℕ → ℕ → Type 0 where
-  to-register : {place v : ℕ} → place < 32 → LawfulWord place v
+  to-register : {place v : ℕ} → Register place → LawfulWord place v
   to-epcr : {v : ℕ} → Multiple v → LawfulWord epcrAt v
   to-eear : {v : ℕ} → LawfulWord eearAt v
   to-esr : {v : ℕ} → Status v → LawfulWord esrAt v

@@ -28,8 +28,11 @@ kind-by-requires-2 c κs = search needs
 system-kind-requires : tie.Need-system-kind-requires
 system-kind-requires c κs = search needs
 
-kind-by-requires-3 : tie.Need-kind-by-requires-3
-kind-by-requires-3 c κs = search needs
+number-requires : tie.Need-number-requires
+number-requires c κs = search needs
+
+jalr-kind-requires : tie.Need-jalr-kind-requires
+jalr-kind-requires c κs = search needs
 
 shift-kind-requires : tie.Need-shift-kind-requires
 shift-kind-requires c κs = search needs
@@ -104,8 +107,10 @@ unfolding rows fits firstFit kindOf kindIn
 returns-9 c = by-opcode (c .before .args .w) 0x11 14 (c .match .keys9) tt
 
 returns-10 : tie.Need-returns-10
-unfolding rows fits firstFit kindOf kindIn
-returns-10 c = by-field (c .before .before .args .w) 0x12 11 5 (λ x. if eqb x 9 then 1 else 15) _ (c .before .match .keys10) tt tt (c .kind-by3 .ensures)
+unfolding rows
+returns-10 c =
+    let s = c .before .before in
+    by-bits (s .before .args .w) 0x12 11 5 _ (s .match .keys10) tt (c .jalr-kind .ensures ∙ ap (kindIn 0x12 11) (c .before .number .ensures .0))
 
 returns-11 : tie.Need-returns-11
 unfolding rows fits firstFit kindOf kindIn
@@ -194,7 +199,8 @@ kind-of-spec =
     kind-by-requires
     kind-by-requires-2
     system-kind-requires
-    kind-by-requires-3
+    number-requires
+    jalr-kind-requires
     shift-kind-requires
     compare-kind-requires
     accumulate-kind-requires

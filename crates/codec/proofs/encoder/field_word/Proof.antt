@@ -6,11 +6,17 @@ use Rattle.codec.proofs.encoder.field_word.Tie as tie
 present-requires : tie.Need-present-requires
 present-requires c κs = search needs
 
+cast-result : tie.Need-cast-result
+cast-result c = search needs
+
 mul-result : tie.Need-mul-result
 mul-result c = search needs
 
 present-requires-2 : tie.Need-present-requires-2
 present-requires-2 c κs = search needs
+
+cast-result-2 : tie.Need-cast-result-2
+cast-result-2 c = search needs
 
 mul-result-2 : tie.Need-mul-result-2
 mul-result-2 c = search needs
@@ -20,6 +26,9 @@ add-result c = search needs
 
 present-requires-3 : tie.Need-present-requires-3
 present-requires-3 c κs = search needs
+
+cast-result-3 : tie.Need-cast-result-3
+cast-result-3 c = search needs
 
 mul-result-3 : tie.Need-mul-result-3
 mul-result-3 c = search needs
@@ -45,11 +54,14 @@ field-word-spec =
     tie.close
     (tie.spec
     present-requires
+    cast-result
     mul-result
     present-requires-2
+    cast-result-2
     mul-result-2
     add-result
     present-requires-3
+    cast-result-3
     mul-result-3
     add-result-2
     field-bits-requires
