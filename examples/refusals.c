@@ -10,21 +10,28 @@ enum { SR_BITS = OR1K_SR_SM | OR1K_SR_TEE | OR1K_SR_IEE | OR1K_SR_F | OR1K_SR_CY
 static uint8_t memory[OR1K_MAX_MEMORY + 4];
 static uint32_t states[(OR1K_MAX_CORES + 1) * OR1K_STATE_WORDS];
 static uint8_t schedule[OR1K_MAX_SCHEDULE + 1];
+static uint32_t levels[OR1K_MAX_SCHEDULE + 1];
 static uint64_t cache[OR1K_MAX_MEMORY / 4 + 1];
 
 /* Prints the refusal of a run from reset with these lengths, and whether it is the one that is due. */
-static void try_lengths(const char *what, uint32_t due, size_t memory_length, size_t cores, size_t schedule_length, size_t cache_length)
+static void try_levels(const char *what, uint32_t due, size_t memory_length, size_t cores, size_t schedule_length, size_t levels_length, size_t cache_length)
 {
     for (size_t core = 0; core < cores; core++)
         or1k_reset(states + core * OR1K_STATE_WORDS, 0);
     uint32_t refusal = or1k_refusal(
-        or1k_fast_run(memory, memory_length, states, cores * OR1K_STATE_WORDS, schedule, schedule_length, cache, cache_length));
+        or1k_fast_run(memory, memory_length, states, cores * OR1K_STATE_WORDS, schedule, schedule_length, levels, levels_length, cache, cache_length));
     printf("%s: %" PRIu32 "%s\n", what, refusal, refusal == due ? "" : " IS WRONG");
+}
+
+/* The same with as many levels as the schedule has entries. */
+static void try_lengths(const char *what, uint32_t due, size_t memory_length, size_t cores, size_t schedule_length, size_t cache_length)
+{
+    try_levels(what, due, memory_length, cores, schedule_length, schedule_length, cache_length);
 }
 
 static uint32_t refusal_of_states(size_t length)
 {
-    return or1k_refusal(or1k_plain_run(memory, OR1K_MIN_MEMORY, states, length, schedule, 0));
+    return or1k_refusal(or1k_plain_run(memory, OR1K_MIN_MEMORY, states, length, schedule, 0, levels, 0));
 }
 
 int main(void)
@@ -43,6 +50,10 @@ int main(void)
     try_lengths("a missing core", OR1K_REFUSED_CORE, least, 1, 1, least / 4);
     try_lengths("a core that is there", OR1K_ACCEPTED, least, 2, 1, least / 4);
     memset(cache, 0, sizeof cache);
+    try_levels("a level too few", OR1K_REFUSED_LEVELS_LENGTH, least, 2, 1, 0, least / 4);
+    try_levels("a level too many", OR1K_REFUSED_LEVELS_LENGTH, least, 2, 1, 2, least / 4);
+    try_levels("the same, and a missing core", OR1K_REFUSED_CORE, least, 1, 1, 2, least / 4);
+    try_levels("the same, and a short cache", OR1K_REFUSED_LEVELS_LENGTH, least, 2, 1, 2, least / 4 - 1);
     try_lengths("a short cache", OR1K_REFUSED_CACHE_LENGTH, least, 1, 0, least / 4 - 1);
     cache[1] = or1k_decode(0x15000000);
     try_lengths("another word's entry", OR1K_REFUSED_CACHE_ENTRY, least, 1, 0, least / 4);
@@ -54,9 +65,13 @@ int main(void)
     or1k_reset(states, 2);
     printf("entry 2: %" PRIu32 "\n", refusal_of_states(OR1K_STATE_WORDS));
     or1k_reset(states, 0);
-    printf("42 words: %" PRIu32 "\n", refusal_of_states(42));
-    printf("43 words: %" PRIu32 "\n", refusal_of_states(43));
-    printf("45 words: %" PRIu32 "\n", refusal_of_states(OR1K_STATE_WORDS + 1));
+    printf("44 words: %" PRIu32 "\n", refusal_of_states(44));
+    printf("45 words: %" PRIu32 "\n", refusal_of_states(45));
+    printf("47 words: %" PRIu32 "\n", refusal_of_states(OR1K_STATE_WORDS + 1));
+    for (uint32_t picmr = 0; picmr < 4; picmr++) {
+        states[OR1K_PICMR] = picmr;
+        printf("PICMR = %" PRIu32 ": %" PRIu32 "\n", picmr, refusal_of_states(OR1K_STATE_WORDS));
+    }
 
     uint32_t bits = 0;
     for (uint32_t bit = 0; bit < 32; bit++) {

@@ -12,6 +12,7 @@ static const uint32_t program[] = {0x9c600005, 0xe0841800, 0x03ffffff, 0x1500000
 static uint8_t memory[MEMORY_BYTES];
 static uint32_t states[CORES * OR1K_STATE_WORDS];
 static uint8_t schedule[STEPS];
+static uint32_t levels[STEPS]; /* all interrupt lines low */
 static uint64_t cache[MEMORY_BYTES / 4];
 
 /* The program in memory, core 0 as after reset with entry 0, an empty cache. */
@@ -44,12 +45,12 @@ static void print(const char *run, uint64_t answer)
 
 static uint64_t plain_run(void)
 {
-    return or1k_plain_run(memory, MEMORY_BYTES, states, CORES * OR1K_STATE_WORDS, schedule, STEPS);
+    return or1k_plain_run(memory, MEMORY_BYTES, states, CORES * OR1K_STATE_WORDS, schedule, STEPS, levels, STEPS);
 }
 
 static uint64_t fast_run(void)
 {
-    return or1k_fast_run(memory, MEMORY_BYTES, states, CORES * OR1K_STATE_WORDS, schedule, STEPS, cache, MEMORY_BYTES / 4);
+    return or1k_fast_run(memory, MEMORY_BYTES, states, CORES * OR1K_STATE_WORDS, schedule, STEPS, levels, STEPS, cache, MEMORY_BYTES / 4);
 }
 
 int main(void)

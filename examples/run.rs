@@ -7,9 +7,11 @@ mod or1k {
     pub const SR: usize = 35;
     pub const ESR: usize = 38;
     pub const MODE: usize = 41;
-    pub const STATE_WORDS: usize = 44;
+    pub const PICMR: usize = 44;
+    pub const STATE_WORDS: usize = 46;
 
     const SR_RESET: u32 = 0x8001;
+    const PICMR_RESET: u32 = 3;
     const RUNNING: u32 = 3;
 
     // As include/or1k.h declares them.
@@ -21,6 +23,8 @@ mod or1k {
             states_length: usize,
             schedule: *const u8,
             schedule_length: usize,
+            levels: *const u32,
+            levels_length: usize,
         ) -> u64;
         fn or1k_fast_run(
             memory: *mut u8,
@@ -29,12 +33,14 @@ mod or1k {
             states_length: usize,
             schedule: *const u8,
             schedule_length: usize,
+            levels: *const u32,
+            levels_length: usize,
             cache: *mut u64,
             cache_length: usize,
         ) -> u64;
     }
 
-    pub fn plain_run(memory: &mut [u8], states: &mut [u32], schedule: &[u8]) -> u64 {
+    pub fn plain_run(memory: &mut [u8], states: &mut [u32], schedule: &[u8], levels: &[u32]) -> u64 {
         // SAFETY: slices are all that the header asks for: initialised, as long as they say, and nobody else's while they are lent.
         unsafe {
             or1k_plain_run(
@@ -44,11 +50,13 @@ mod or1k {
                 states.len(),
                 schedule.as_ptr(),
                 schedule.len(),
+                levels.as_ptr(),
+                levels.len(),
             )
         }
     }
 
-    pub fn fast_run(memory: &mut [u8], states: &mut [u32], schedule: &[u8], cache: &mut [u64]) -> u64 {
+    pub fn fast_run(memory: &mut [u8], states: &mut [u32], schedule: &[u8], levels: &[u32], cache: &mut [u64]) -> u64 {
         // SAFETY: as above.
         unsafe {
             or1k_fast_run(
@@ -58,6 +66,8 @@ mod or1k {
                 states.len(),
                 schedule.as_ptr(),
                 schedule.len(),
+                levels.as_ptr(),
+                levels.len(),
                 cache.as_mut_ptr(),
                 cache.len(),
             )
@@ -70,6 +80,7 @@ mod or1k {
         state[SR] = SR_RESET;
         state[ESR] = SR_RESET;
         state[MODE] = RUNNING;
+        state[PICMR] = PICMR_RESET;
         state
     }
 }
@@ -101,14 +112,15 @@ fn main() {
     let mut start = PROGRAM.map(u32::to_be_bytes).concat();
     start.resize(MEMORY_BYTES, 0);
     let mut schedule = [0; STEPS];
+    let levels = [0; STEPS]; // all interrupt lines low
 
     let (mut memory, mut state) = (start.clone(), or1k::reset(0));
-    print("plain run", or1k::plain_run(&mut memory, &mut state, &schedule), &state);
+    print("plain run", or1k::plain_run(&mut memory, &mut state, &schedule, &levels), &state);
 
     let (mut memory, mut state) = (start, or1k::reset(0));
     let mut cache = vec![0; MEMORY_BYTES / 4];
-    print("fast run", or1k::fast_run(&mut memory, &mut state, &schedule, &mut cache), &state);
-    print("fast run again, from there", or1k::fast_run(&mut memory, &mut state, &schedule, &mut cache), &state);
+    print("fast run", or1k::fast_run(&mut memory, &mut state, &schedule, &levels, &mut cache), &state);
+    print("fast run again, from there", or1k::fast_run(&mut memory, &mut state, &schedule, &levels, &mut cache), &state);
     schedule[STEPS - 1] = 1;
-    print("fast run of core 1", or1k::fast_run(&mut memory, &mut state, &schedule, &mut cache), &state);
+    print("fast run of core 1", or1k::fast_run(&mut memory, &mut state, &schedule, &levels, &mut cache), &state);
 }

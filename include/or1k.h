@@ -46,7 +46,9 @@ enum {
     OR1K_MODE,
     OR1K_MACHI, /* the accumulator of l.mac, l.maci, l.msb and l.macrc, its high word .. */
     OR1K_MACLO, /* .. and its low one */
-    OR1K_STATE_WORDS /* how many words a state has: 44 */
+    OR1K_PICMR, /* which lines are latched; 0 and 1 always are */
+    OR1K_PICSR, /* what is latched; a bit stays until the program writes PICSR with that bit 0 */
+    OR1K_STATE_WORDS /* how many words a state has: 46 */
 };
 
 /* The modes. A halted core's entries of the schedule do nothing. */
@@ -57,9 +59,9 @@ enum {
 
 /* The bits of SR and ESR; all others are 0. */
 enum {
-    OR1K_SR_SM = 1 << 0,   /* supervisor mode; an exception sets it and clears the next two, and no instruction heeds the three */
+    OR1K_SR_SM = 1 << 0,   /* supervisor mode; an exception sets it and clears the next two; nothing heeds SM and TEE */
     OR1K_SR_TEE = 1 << 1,  /* tick timer exceptions */
-    OR1K_SR_IEE = 1 << 2,  /* interrupt exceptions */
+    OR1K_SR_IEE = 1 << 2,  /* interrupts are taken */
     OR1K_SR_F = 1 << 9,    /* flag */
     OR1K_SR_CY = 1 << 10,  /* carry or borrow; an unsigned product that does not fit; a division by 0 */
     OR1K_SR_OV = 1 << 11,  /* overflow */
@@ -67,6 +69,11 @@ enum {
     OR1K_SR_DSX = 1 << 13, /* the last exception was in a delay slot */
     OR1K_SR_FO = 1 << 15,  /* always 1 */
     OR1K_SR_RESET = OR1K_SR_FO | OR1K_SR_SM
+};
+
+/* PICMR at reset; its bits 0 and 1 are always 1. */
+enum {
+    OR1K_PICMR_RESET = 3
 };
 
 /* Resets one core's state, OR1K_STATE_WORDS words: it runs from the entry, a multiple of 4. */
@@ -78,6 +85,7 @@ static inline void or1k_reset(uint32_t *state, uint32_t entry)
     state[OR1K_SR] = OR1K_SR_RESET;
     state[OR1K_ESR] = OR1K_SR_RESET;
     state[OR1K_MODE] = OR1K_RUNNING;
+    state[OR1K_PICMR] = OR1K_PICMR_RESET;
 }
 
 /* Runs.
@@ -86,7 +94,8 @@ static inline void or1k_reset(uint32_t *state, uint32_t entry)
  * `sizeof a / sizeof a[0]`.
  *   memory    OR1K_MIN_MEMORY to OR1K_MAX_MEMORY bytes, a multiple of 4, from address 0, the high byte of a word first
  *   states    OR1K_STATE_WORDS words for each of 1 to OR1K_MAX_CORES cores
- *   schedule  up to OR1K_MAX_SCHEDULE bytes, each the number, from 0, of the core that runs one instruction; it is only read
+ *   schedule  up to OR1K_MAX_SCHEDULE bytes, each the number, from 0, of the core that runs one instruction or takes an interrupt; it is only read
+ *   levels    for each entry of the schedule, the levels of 32 interrupt lines, line 0 in the lowest bit; 0 if all are low; it is only read
  *   cache     for the fast run: the entry of each word of memory, or 0 where it is empty [table]
  *
  * What a caller must see to:
@@ -103,28 +112,33 @@ static inline void or1k_reset(uint32_t *state, uint32_t entry)
  * the words that were written to 0; an entry that is no longer its word's is refused.
  */
 
-/* Why a run was refused: the first of 1 to 7 that is so (of 1 to 5 in the plain run). */
+/* Why a run was refused: the first of 1, 2, 3, 4, 5, 11, 6, 7 that is so (in the plain run without 6 and 7). */
 enum {
     OR1K_ACCEPTED = 0,
     OR1K_REFUSED_MEMORY_LENGTH = 1,   /* memory is too short, too long or no multiple of 4 */
     OR1K_REFUSED_STATES_LENGTH = 2,   /* the states are not OR1K_STATE_WORDS words for each of 1 to 4 cores */
     OR1K_REFUSED_STATE = 3,           /* a state breaks a rule: r0 is 0; delay and link are 0 or 1; mode is OR1K_HALTED or OR1K_RUNNING;
                                          PC, target, EPCR and link address are multiples of 4; target is 0 if delay is 0, link address 0 if
-                                         link is 0; SR and ESR have OR1K_SR_FO and no bits but those above */
+                                         link is 0; SR and ESR have OR1K_SR_FO and no bits but those above; PICMR has bits 0 and 1 */
     OR1K_REFUSED_SCHEDULE_LENGTH = 4, /* the schedule is too long */
     OR1K_REFUSED_CORE = 5,            /* the schedule names a core that is not there */
     OR1K_REFUSED_CACHE_LENGTH = 6,    /* the cache has not one entry for each word of memory */
     OR1K_REFUSED_CACHE_ENTRY = 7,     /* an entry that is not 0 is not what its word decodes to */
-    OR1K_REFUSED_NO_WORD = 8          /* the encoder only: no word decodes to the entry */
+    OR1K_REFUSED_NO_WORD = 8,         /* the encoder only: no word decodes to the entry */
+    OR1K_REFUSED_LEVELS_LENGTH = 11   /* the levels are not one for each entry of the schedule */
 };
 
-/* Runs the schedule's entries in order and decodes each word afresh. The answer is read by the four functions below. */
+/* Runs the schedule's entries in order and decodes each word afresh. The answer is read by the four functions below.
+ * On a running core's entry PICSR first gains the lines that are high and have their bit in PICMR. If it is then not 0, SR has IEE and no delay slot
+ * is pending, the core takes an exception to 800 (hexadecimal) in place of an instruction, which counts as executed and raised: EPCR is PC, EEAR and
+ * PICSR stay, and ESR, SR and the link are as after any exception. */
 uint64_t or1k_plain_run(uint8_t *memory, size_t memory_length, uint32_t *states, size_t states_length,
-                        const uint8_t *schedule, size_t schedule_length);
+                        const uint8_t *schedule, size_t schedule_length, const uint32_t *levels, size_t levels_length);
 
 /* The same run by the decode cache: memory, states, executed and raised are the plain run's. */
 uint64_t or1k_fast_run(uint8_t *memory, size_t memory_length, uint32_t *states, size_t states_length,
-                       const uint8_t *schedule, size_t schedule_length, uint64_t *cache, size_t cache_length);
+                       const uint8_t *schedule, size_t schedule_length, const uint32_t *levels, size_t levels_length,
+                       uint64_t *cache, size_t cache_length);
 
 /* The four parts of a run's answer. */
 

@@ -169,18 +169,19 @@ pub fn reset_sheets(cores: usize, entry: u32) -> Vec<u32> {
     sheets
 }
 
-/// A fast run, of this engine or another: memory, sheets, schedule and table
-/// in, the packed answer out.
-pub type FastRun<'a> = &'a mut dyn FnMut(&mut [u8], &mut [u32], &[u8], &mut [u64]) -> u64;
+/// A fast run, of this engine or another: memory, sheets, schedule, levels and
+/// table in, the packed answer out.
+pub type FastRun<'a> = &'a mut dyn FnMut(&mut [u8], &mut [u32], &[u8], &[u32], &mut [u64]) -> u64;
 
 /// The whole output of the runner for a card, by this engine's fast run.
 pub fn output(card: &[u8]) -> String {
-    output_with(card, &mut |memory, sheets, schedule, table| {
-        runs::fast_run(memory, sheets, schedule, table).pack()
+    output_with(card, &mut |memory, sheets, schedule, levels, table| {
+        runs::fast_run(memory, sheets, schedule, levels, table).pack()
     })
 }
 
-/// The whole output of the runner for a card, by a given fast run.
+/// The whole output of the runner for a card, by a given fast run. 02, note 4: "the
+/// card runner gives all lines low".
 pub fn output_with(card: &[u8], fast_run: FastRun) -> String {
     let mut image = vec![0; IMAGE_BYTES];
     match parse(card, &mut image) {
@@ -189,7 +190,8 @@ pub fn output_with(card: &[u8], fast_run: FastRun) -> String {
             let mut sheets = reset_sheets(job.cores, job.entry);
             let mut table = vec![0; job.memory / 4];
             let memory = &mut image[..job.memory];
-            let packed = fast_run(memory, &mut sheets, &job.schedule, &mut table);
+            let levels = vec![0; job.schedule.len()];
+            let packed = fast_run(memory, &mut sheets, &job.schedule, &levels, &mut table);
             listing(Answer::unpack(packed), &sheets)
         }
     }

@@ -1,10 +1,11 @@
 //! Random cases for the runs: accepted ones, and ones broken in known places.
 
 use crate::isa::{self, Insn, Kind};
+use crate::levels::levels;
 use crate::programs;
 use crate::rng::Rng;
 use crate::runs::{MEMORY_MOST, SCHEDULE_MOST};
-use crate::state::{allowed_sr, place, OVE, SHEET_WORDS, SR_BITS, SR_RESET};
+use crate::state::{allowed_sr, place, IEE, OVE, SHEET_WORDS, SR_BITS, SR_RESET, UNMASKABLE};
 
 /// Everything that a fast run is lent; a plain run leaves the table aside.
 #[derive(Clone, Debug, PartialEq, Eq, Default)]
@@ -12,6 +13,7 @@ pub struct Case {
     pub memory: Vec<u8>,
     pub sheets: Vec<u32>,
     pub schedule: Vec<u8>,
+    pub levels: Vec<u32>,
     pub table: Vec<u64>,
 }
 
@@ -28,6 +30,24 @@ impl Case {
     pub fn cores(&self) -> usize {
         self.sheets.len() / SHEET_WORDS
     }
+
+    /// Another schedule, with all lines low.
+    pub fn set_schedule(&mut self, schedule: Vec<u8>) {
+        self.levels = vec![0; schedule.len()];
+        self.schedule = schedule;
+    }
+
+    /// Another schedule, with random levels.
+    pub fn throw_schedule(&mut self, rng: &mut Rng, entries_most: usize) {
+        self.schedule = schedule(rng, self.cores(), entries_most);
+        self.throw_levels(rng);
+    }
+
+    fn throw_levels(&mut self, rng: &mut Rng) {
+        let core = rng.below(self.cores());
+        let mask = self.sheets[core * SHEET_WORDS + place::PICMR];
+        self.levels = levels(rng, self.schedule.len(), mask);
+    }
 }
 
 /// A case that no refusal is met by, with at most so many entries.
@@ -42,9 +62,10 @@ pub fn accepted_case(rng: &mut Rng, entries_most: usize) -> Case {
     let cores = rng.between(1, 4);
     case.sheets = accepted_sheets(rng, cores, bytes as u32);
     for core in 0..cores {
+        plant_interruptible(rng, &mut case, core);
         plant_self_store(rng, &mut case, core);
     }
-    case.schedule = schedule(rng, cores, entries_most);
+    case.throw_schedule(rng, entries_most);
     case.table = accepted_table(rng, &case);
     case
 }
@@ -54,6 +75,7 @@ pub fn long_case(rng: &mut Rng) -> Case {
     let mut case = accepted_case(rng, 0);
     let cores = case.cores();
     case.schedule = (0..SCHEDULE_MOST).map(|_| rng.below(cores) as u8).collect();
+    case.throw_levels(rng);
     case
 }
 
@@ -87,6 +109,9 @@ fn fill_memory(rng: &mut Rng, case: &mut Case) {
             set_words(case, vector / 4, &programs::skipping_handler(skip));
         }
     }
+    if !rng.one_in(8) {
+        set_words(case, 0x800 / 4, &programs::interrupt_handler(rng));
+    }
     for _ in 0..rng.pick(&[0, 4, 24]) {
         let index = rng.below(words - 8);
         set_words(case, index, &programs::counting_loop());
@@ -118,6 +143,20 @@ pub fn accepted_sheets(rng: &mut Rng, cores: usize, bytes: u32) -> Vec<u32> {
         sheets.extend_from_slice(&sheet);
     }
     sheets
+}
+
+/// Puts words that a line may rise in near where a core starts, now and then.
+fn plant_interruptible(rng: &mut Rng, case: &mut Case, core: usize) {
+    let sheet = &case.sheets[core * SHEET_WORDS..];
+    let (first, in_slot) = (sheet[place::PC] as usize / 4, sheet[place::DELAY] == 1);
+    if 4 * first + 64 > case.memory.len() {
+        return;
+    }
+    if in_slot && rng.one_in(2) {
+        set_words(case, first, &programs::interruptible_slot(rng));
+    } else if rng.one_in(3) {
+        set_words(case, first + rng.below(6), &programs::interruptible_words(rng));
+    }
 }
 
 /// Puts a store into its own word near where a core starts, now and then.
@@ -172,7 +211,15 @@ fn accepted_sheet(rng: &mut Rng, bytes: u32) -> [u32; SHEET_WORDS] {
     let accumulator = accumulator(rng);
     sheet[place::MACHI] = (accumulator >> 32) as u32;
     sheet[place::MACLO] = accumulator as u32;
+    sheet[place::PICMR] = mask(rng);
+    sheet[place::PICSR] = if rng.one_in(5) { mask(rng) & rng.edge_word() } else { 0 };
     sheet
+}
+
+/// PICMR: as at reset, with one line more, all, or any.
+fn mask(rng: &mut Rng) -> u32 {
+    let (one, any) = (1 << rng.below(32), rng.next_u32());
+    rng.pick(&[0, one, u32::MAX, any, any]) | UNMASKABLE
 }
 
 /// MACHI and MACLO, often near where MACLO, the sign or all of them turn over.
@@ -207,13 +254,14 @@ fn address(rng: &mut Rng, bytes: u32) -> u32 {
     }
 }
 
-/// SR or ESR: as at reset or any, mostly with OVE, for every exception clears
-/// it.
+/// SR or ESR: as at reset or any, mostly with OVE and often with IEE, for every
+/// exception clears them.
 fn status(rng: &mut Rng) -> u32 {
     match rng.below(4) {
         0 => SR_RESET,
         1 => allowed_sr(rng.next_u32()),
-        _ => allowed_sr(rng.next_u32() | OVE),
+        2 => allowed_sr(rng.next_u32() | OVE),
+        _ => allowed_sr(rng.next_u32() | OVE | IEE),
     }
 }
 
@@ -247,8 +295,17 @@ fn accepted_table(rng: &mut Rng, case: &Case) -> Vec<u64> {
     (0..words).map(&mut fill).collect()
 }
 
-/// A case broken in one or two places and the refusal it must meet: the least
-/// number, as "Runs test 1 to 7 in this order".
+/// The refusals of the runs as they are tested: 01's "1 to 7 in this order", and 11
+/// "after 5".
+pub const ORDER: [u8; 8] = [1, 2, 3, 4, 5, 11, 6, 7];
+
+/// The one of two refusals that is tested first.
+fn earlier(one: u8, other: u8) -> u8 {
+    let met = |refusal: &&u8| **refusal == one || **refusal == other;
+    *ORDER.iter().find(met).expect("a refusal of the runs")
+}
+
+/// A case broken in one or two places and the refusal it must meet.
 pub fn broken_case(rng: &mut Rng) -> (Case, u8) {
     let mut case = accepted_case(rng, 40);
     let first = break_by(rng, &mut case, 0);
@@ -256,12 +313,12 @@ pub fn broken_case(rng: &mut Rng) -> (Case, u8) {
         return (case, first);
     }
     let second = break_by(rng, &mut case, first);
-    (case, first.min(second))
+    (case, earlier(first, second))
 }
 
 /// Breaks a case so that it meets some refusal other than `not`.
 fn break_by(rng: &mut Rng, case: &mut Case, not: u8) -> u8 {
-    let mut refusal = rng.between(1, 7) as u8;
+    let mut refusal = rng.pick(&ORDER);
     // A table or sheets of another length have no places to break again.
     if refusal == not || (not <= 2 && not != 0) || not == 6 {
         refusal = if not == 5 { 3 } else { 5 };
@@ -273,9 +330,11 @@ fn break_by(rng: &mut Rng, case: &mut Case, not: u8) -> u8 {
         4 => {
             let entries = if rng.one_in(2) { 65_537 } else { rng.between(65_537, 70_000) };
             case.schedule.resize(entries, 0);
+            case.levels.resize(entries, 0);
         }
         5 => break_schedule(rng, case),
         6 => break_table_length(rng, case),
+        11 => break_levels(rng, case),
         _ => break_table(rng, case),
     }
     refusal
@@ -297,13 +356,14 @@ fn break_memory(rng: &mut Rng, case: &mut Case) {
 
 fn break_sheet_count(rng: &mut Rng, case: &mut Case) {
     let words = case.sheets.len();
-    let wrong = match rng.below(8) {
+    let wrong = match rng.below(9) {
         0 => 0,
         1 => 5 * SHEET_WORDS,
         2 => words - 1,
         3 => 4 * SHEET_WORDS + rng.between(1, 200),
-        // Sheets as they were before note 2 of document 02.
+        // Sheets as they were before notes 2 and 4 of document 02.
         4 | 5 => 42 * case.cores(),
+        6 => 44 * case.cores(),
         _ => words + rng.between(1, SHEET_WORDS - 1),
     };
     case.sheets.resize(wrong, 0);
@@ -314,6 +374,18 @@ fn break_schedule(rng: &mut Rng, case: &mut Case) {
     let wrong = if rng.one_in(2) { cores } else { rng.between(cores, 255) };
     let index = rng.between(0, case.schedule.len());
     case.schedule.insert(index, wrong as u8);
+    // A level goes with it, unless the list is a broken one already.
+    case.levels.insert(index.min(case.levels.len()), 0);
+}
+
+/// As many levels as something else has, or one too few or too many.
+fn break_levels(rng: &mut Rng, case: &mut Case) {
+    let entries = case.schedule.len();
+    let near = [entries.wrapping_sub(1), entries + 1, 0, entries / 4, 4 * entries];
+    let far = [case.cores() * entries, case.memory.len(), case.table.len(), SCHEDULE_MOST];
+    let wrong = if rng.one_in(4) { rng.pick(&far) } else { rng.pick(&near) };
+    let wrong = if wrong == entries || wrong > MEMORY_MOST { entries + 1 } else { wrong };
+    case.levels.resize(wrong, 0);
 }
 
 fn break_table_length(rng: &mut Rng, case: &mut Case) {
@@ -344,7 +416,7 @@ fn break_some_sheet(rng: &mut Rng, case: &mut Case) {
     let sheet = &mut case.sheets[core * SHEET_WORDS..(core + 1) * SHEET_WORDS];
     let odd = rng.between(1, 3) as u32;
     let not_small = rng.pick(&[2, 3, 4, 0x100, 0xffff_ffff]);
-    match rng.below(12) {
+    match rng.below(14) {
         0 => sheet[0] = rng.next_u32() | 1,
         1 => sheet[place::PC] |= odd,
         2 => sheet[place::EPCR] |= odd,
@@ -356,6 +428,7 @@ fn break_some_sheet(rng: &mut Rng, case: &mut Case) {
         8 => sheet[place::LINK] = not_small,
         9 => (sheet[place::LINK], sheet[place::LINK_ADDRESS]) = (0, 4 * odd),
         10 => (sheet[place::LINK], sheet[place::LINK_ADDRESS]) = (1, 0x100 | odd),
+        11 | 12 => sheet[place::PICMR] &= !odd,
         _ => sheet[place::MODE] = rng.pick(&[1, 2, 4, 7, 0x103, 0xffff_ffff]),
     }
 }

@@ -19,17 +19,24 @@ pub trait Codec {
 
 /// The two runs beside them, with answers packed as numbers.
 pub trait Engine: Codec {
-    fn plain_run(&self, memory: &mut [u8], sheets: &mut [u32], schedule: &[u8]) -> u64;
+    fn plain_run(
+        &self,
+        memory: &mut [u8],
+        sheets: &mut [u32],
+        schedule: &[u8],
+        levels: &[u32],
+    ) -> u64;
     fn fast_run(
         &self,
         memory: &mut [u8],
         sheets: &mut [u32],
         schedule: &[u8],
+        levels: &[u32],
         table: &mut [u64],
     ) -> u64;
 }
 
-type FastRun = fn(&mut [u8], &mut [u32], &[u8], &mut [u64]) -> Answer;
+type FastRun = fn(&mut [u8], &mut [u32], &[u8], &[u32], &mut [u64]) -> Answer;
 
 /// This engine, with one of its two fast runs.
 pub struct Paper {
@@ -55,17 +62,24 @@ impl Codec for Paper {
 }
 
 impl Engine for Paper {
-    fn plain_run(&self, memory: &mut [u8], sheets: &mut [u32], schedule: &[u8]) -> u64 {
-        runs::plain_run(memory, sheets, schedule).pack()
+    fn plain_run(
+        &self,
+        memory: &mut [u8],
+        sheets: &mut [u32],
+        schedule: &[u8],
+        levels: &[u32],
+    ) -> u64 {
+        runs::plain_run(memory, sheets, schedule, levels).pack()
     }
     fn fast_run(
         &self,
         memory: &mut [u8],
         sheets: &mut [u32],
         schedule: &[u8],
+        levels: &[u32],
         table: &mut [u64],
     ) -> u64 {
-        (self.fast_run)(memory, sheets, schedule, table).pack()
+        (self.fast_run)(memory, sheets, schedule, levels, table).pack()
     }
 }
 
@@ -79,15 +93,16 @@ pub struct Left {
 /// Runs a copy of a case by the plain run; the table is not lent.
 pub fn after_plain(engine: &dyn Engine, case: &Case) -> Left {
     let mut case = case.clone();
-    let packed = engine.plain_run(&mut case.memory, &mut case.sheets, &case.schedule);
+    let Case { memory, sheets, schedule, levels, .. } = &mut case;
+    let packed = engine.plain_run(memory, sheets, schedule, levels);
     Left { answer: Answer::unpack(packed), case }
 }
 
 /// Runs a copy of a case by the fast run.
 pub fn after_fast(engine: &dyn Engine, case: &Case) -> Left {
     let mut case = case.clone();
-    let packed =
-        engine.fast_run(&mut case.memory, &mut case.sheets, &case.schedule, &mut case.table);
+    let Case { memory, sheets, schedule, levels, table } = &mut case;
+    let packed = engine.fast_run(memory, sheets, schedule, levels, table);
     Left { answer: Answer::unpack(packed), case }
 }
 
@@ -170,7 +185,8 @@ fn refused_complaint(case: &Case, plain: &Left, fast: &Left) -> Option<String> {
     if fast.case != *case {
         return Some(format!("refused by {refusal}, yet something lent was written"));
     }
-    if refusal <= 5 && (plain.answer != fast.answer || plain.case != *case) {
+    let concerns_both = refusal <= 5 || refusal == 11;
+    if concerns_both && (plain.answer != fast.answer || plain.case != *case) {
         return Some(format!("plain run of a case refused by {refusal}: {:?}", plain.answer));
     }
     None
@@ -183,8 +199,8 @@ fn ran_complaint(plain: &Left, fast: &Left) -> Option<String> {
     if let Some(difference) = difference {
         return Some(format!("plain against fast: {difference}"));
     }
-    let left = &fast.case;
-    match runs::fast_refusal(&left.memory, &left.sheets, &left.schedule, &left.table) {
+    let Case { memory, sheets, schedule, levels, table } = &fast.case;
+    match runs::fast_refusal(memory, sheets, schedule, levels, table) {
         0 => None,
         refusal => Some(format!("not accepted again: {refusal}")),
     }
@@ -198,6 +214,7 @@ pub fn first_difference(x: &Left, y: &Left) -> Option<String> {
     differing("memory byte", &x.case.memory, &y.case.memory)
         .or_else(|| differing("sheet word", &x.case.sheets, &y.case.sheets))
         .or_else(|| differing("schedule entry", &x.case.schedule, &y.case.schedule))
+        .or_else(|| differing("levels of entry", &x.case.levels, &y.case.levels))
         .or_else(|| differing("table entry", &x.case.table, &y.case.table))
 }
 
@@ -209,8 +226,8 @@ fn differing<T: PartialEq + std::fmt::LowerHex>(what: &str, x: &[T], y: &[T]) ->
 /// Whether two engines' fast runs print the same for a card, read here.
 pub fn same_card(one: &dyn Engine, other: &dyn Engine, card: &[u8]) -> Result<(), String> {
     let print = |engine: &dyn Engine| {
-        card::output_with(card, &mut |memory, sheets, schedule, table| {
-            engine.fast_run(memory, sheets, schedule, table)
+        card::output_with(card, &mut |memory, sheets, schedule, levels, table| {
+            engine.fast_run(memory, sheets, schedule, levels, table)
         })
     };
     let (x, y) = (print(one), print(other));

@@ -12,6 +12,7 @@ pub fn write_case(case: &Case) -> String {
     write_bytes(&mut text, "memory", &case.memory);
     write_items(&mut text, "sheets", &case.sheets);
     write_bytes(&mut text, "schedule", &case.schedule);
+    write_items(&mut text, "levels", &case.levels);
     write_items(&mut text, "table", &case.table);
     text.push_str("case-end\n");
     text
@@ -54,7 +55,7 @@ pub fn read_case(text: &str) -> Option<Case> {
             return Some(case);
         }
         let (first, second) = line.split_once(' ')?;
-        if matches!(first, "memory" | "sheets" | "schedule" | "table") {
+        if matches!(first, "memory" | "sheets" | "schedule" | "levels" | "table") {
             section = first.to_string();
             resize(&mut case, first, second.parse().ok()?);
         } else {
@@ -69,6 +70,7 @@ fn resize(case: &mut Case, section: &str, length: usize) {
         "memory" => case.memory.resize(length, 0),
         "sheets" => case.sheets.resize(length, 0),
         "schedule" => case.schedule.resize(length, 0),
+        "levels" => case.levels.resize(length, 0),
         _ => case.table.resize(length, 0),
     }
 }
@@ -77,15 +79,18 @@ fn put(case: &mut Case, section: &str, index: usize, text: &str) -> Option<()> {
     match section {
         "memory" => put_bytes(&mut case.memory, index, text),
         "schedule" => put_bytes(&mut case.schedule, index, text),
-        "sheets" => {
-            *case.sheets.get_mut(index)? = u32::from_str_radix(text, 16).ok()?;
-            Some(())
-        }
+        "sheets" => put_word(&mut case.sheets, index, text),
+        "levels" => put_word(&mut case.levels, index, text),
         _ => {
             *case.table.get_mut(index)? = u64::from_str_radix(text, 16).ok()?;
             Some(())
         }
     }
+}
+
+fn put_word(words: &mut [u32], index: usize, text: &str) -> Option<()> {
+    *words.get_mut(index)? = u32::from_str_radix(text, 16).ok()?;
+    Some(())
 }
 
 fn put_bytes(bytes: &mut [u8], index: usize, text: &str) -> Option<()> {

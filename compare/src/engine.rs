@@ -13,6 +13,8 @@ extern "C" {
         states_length: usize,
         schedule: *const u8,
         schedule_length: usize,
+        levels: *const u32,
+        levels_length: usize,
     ) -> u64;
     fn or1k_fast_run(
         memory: *mut u8,
@@ -21,6 +23,8 @@ extern "C" {
         states_length: usize,
         schedule: *const u8,
         schedule_length: usize,
+        levels: *const u32,
+        levels_length: usize,
         cache: *mut u64,
         cache_length: usize,
     ) -> u64;
@@ -43,7 +47,13 @@ impl Codec for Archive {
 }
 
 impl Engine for Archive {
-    fn plain_run(&self, memory: &mut [u8], sheets: &mut [u32], schedule: &[u8]) -> u64 {
+    fn plain_run(
+        &self,
+        memory: &mut [u8],
+        sheets: &mut [u32],
+        schedule: &[u8],
+        levels: &[u32],
+    ) -> u64 {
         // SAFETY: each pointer is a slice's and goes with that slice's length,
         // and no two mutable slices overlap. The functions require nothing of
         // lengths or items: what they do not run they refuse.
@@ -55,6 +65,8 @@ impl Engine for Archive {
                 sheets.len(),
                 schedule.as_ptr(),
                 schedule.len(),
+                levels.as_ptr(),
+                levels.len(),
             )
         }
     }
@@ -63,6 +75,7 @@ impl Engine for Archive {
         memory: &mut [u8],
         sheets: &mut [u32],
         schedule: &[u8],
+        levels: &[u32],
         table: &mut [u64],
     ) -> u64 {
         // SAFETY: as above.
@@ -74,6 +87,8 @@ impl Engine for Archive {
                 sheets.len(),
                 schedule.as_ptr(),
                 schedule.len(),
+                levels.as_ptr(),
+                levels.len(),
                 table.as_mut_ptr(),
                 table.len(),
             )

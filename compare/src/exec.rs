@@ -1,7 +1,7 @@
 //! One instruction on one core ("One instruction").
 
 use crate::isa::{Insn, Kind, Reg};
-use crate::state::{self, Core, CY, DSX, F, IEE, OV, OVE, SM, TEE};
+use crate::state::{self, Core, CY, DSX, F, IEE, OV, OVE, SM, TEE, UNMASKABLE};
 
 /// Why an instruction did not complete.
 #[derive(Clone, Copy, Debug, PartialEq, Eq, PartialOrd, Ord, Hash)]
@@ -12,6 +12,7 @@ pub enum Cause {
     Range,
     Syscall,
     Trap,
+    Interrupt,
 }
 
 /// An exception and, where its cause says so, the value EEAR takes.
@@ -52,6 +53,8 @@ impl Cause {
             Cause::Range => 0xb00,
             Cause::Syscall => 0xc00,
             Cause::Trap => 0xe00,
+            // 02, note 4.
+            Cause::Interrupt => 0x800,
         }
     }
 
@@ -77,6 +80,25 @@ pub fn fetch_fault(core: &mut Core) -> Step {
     let exception = Cause::Bus.at(core.pc);
     take(core, exception);
     Step { raised: Some(Cause::Bus), stored: None }
+}
+
+/// 02, note 4: what an entry of a running core does with its lines before its
+/// fetch, and the step that takes an interrupt "in place of a fetch", if it does.
+#[inline]
+pub fn interrupt(core: &mut Core, lines: u32) -> Option<Step> {
+    latch(core, lines);
+    // "PICSR is then not 0, IEE is 1 and no delay slot is pending"
+    let taken = core.picsr != 0 && core.has(IEE) && !core.delay;
+    taken.then(|| {
+        take(core, Cause::Interrupt.plain());
+        Step { raised: Some(Cause::Interrupt), stored: None }
+    })
+}
+
+/// "PICSR first gains the bits of lines and PICMR together."
+#[inline]
+pub fn latch(core: &mut Core, lines: u32) {
+    core.picsr |= lines & core.picmr;
 }
 
 /// Runs one decoded instruction of core `who`, which is in mode 3. It is put
@@ -460,6 +482,9 @@ fn on_one(core: &mut Core, insn: Insn) -> Flow {
 /// 02, note 2, of MACHI and MACLO: "their SPRs are 2802 and 2801 hexadecimal".
 const SPR_MACHI: u32 = 0x2802;
 const SPR_MACLO: u32 = 0x2801;
+/// 02, note 4: "PICMR is SPR 4800 hexadecimal", "PICSR is 4802".
+const SPR_PICMR: u32 = 0x4800;
+const SPR_PICSR: u32 = 0x4802;
 
 /// "Others read 0".
 fn read_special(core: &mut Core, identity: (u32, u32), insn: Insn) -> Flow {
@@ -472,13 +497,16 @@ fn read_special(core: &mut Core, identity: (u32, u32), insn: Insn) -> Flow {
         129 => identity.1,
         SPR_MACLO => core.maclo,
         SPR_MACHI => core.machi,
+        SPR_PICMR => core.picmr,
+        SPR_PICSR => core.picsr,
         _ => 0,
     };
     core.set(insn.d, value);
     Flow::Next
 }
 
-/// "Bits that SR or ESR may not have, and EPCR's low two, are dropped".
+/// "Bits that SR or ESR may not have, and EPCR's low two, are dropped". A write to
+/// PICSR "keeps the bits set in it and in the value".
 fn write_special(core: &mut Core, insn: Insn) -> Flow {
     let value = core.get(insn.b);
     match core.get(insn.a) | insn.imm {
@@ -488,6 +516,8 @@ fn write_special(core: &mut Core, insn: Insn) -> Flow {
         64 => core.esr = state::allowed_sr(value),
         SPR_MACLO => core.maclo = value,
         SPR_MACHI => core.machi = value,
+        SPR_PICMR => core.picmr = value | UNMASKABLE,
+        SPR_PICSR => core.picsr &= value,
         _ => {}
     }
     Flow::Next

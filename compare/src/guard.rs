@@ -1,5 +1,5 @@
 //! Lends an engine copies with guard zones around them, so that a write
-//! outside what is lent, or to the schedule, is noticed.
+//! outside what is lent, or to the schedule or the levels, is noticed.
 
 use crate::cases::Case;
 use crate::check::{Codec, Engine};
@@ -56,27 +56,31 @@ struct Lent {
     memory: Zoned<u8>,
     sheets: Zoned<u32>,
     schedule: Zoned<u8>,
+    levels: Zoned<u32>,
     table: Zoned<u64>,
 }
 
 impl Lent {
-    fn copy(memory: &[u8], sheets: &[u32], schedule: &[u8], table: &[u64]) -> Lent {
+    fn copy(memory: &[u8], sheets: &[u32], schedule: &[u8], levels: &[u32], table: &[u64]) -> Lent {
         Lent {
             memory: Zoned::around(memory, 0xa5),
             sheets: Zoned::around(sheets, 0xa5a5_5a5a),
             schedule: Zoned::around(schedule, 0x5a),
+            levels: Zoned::around(levels, 0x5a5a_a5a5),
             table: Zoned::around(table, 0x5a5a_a5a5_5a5a_a5a5),
         }
     }
 
     /// What changed that may not, if anything did.
-    fn broken(&mut self, schedule: &[u8]) -> Option<&str> {
+    fn broken(&mut self, schedule: &[u8], levels: &[u32]) -> Option<&str> {
         let checks = [
             ("around memory", self.memory.is_intact()),
             ("around the sheets", self.sheets.is_intact()),
             ("around the schedule", self.schedule.is_intact()),
+            ("around the levels", self.levels.is_intact()),
             ("around the table", self.table.is_intact()),
             ("the schedule", self.schedule.lent() == schedule),
+            ("the levels", self.levels.lent() == levels),
         ];
         checks.iter().find(|(_, intact)| !intact).map(|&(place, _)| place)
     }
@@ -89,13 +93,15 @@ impl Guarded<'_> {
         memory: &[u8],
         sheets: &[u32],
         schedule: &[u8],
+        levels: &[u32],
         table: &[u64],
     ) {
-        if let Some(place) = lent.broken(schedule) {
+        if let Some(place) = lent.broken(schedule, levels) {
             let case = Case {
                 memory: memory.to_vec(),
                 sheets: sheets.to_vec(),
                 schedule: schedule.to_vec(),
+                levels: levels.to_vec(),
                 table: table.to_vec(),
             };
             panic!("{}: {place} was written\n{}", self.name(), dump::write_case(&case));
@@ -104,10 +110,21 @@ impl Guarded<'_> {
 }
 
 impl Engine for Guarded<'_> {
-    fn plain_run(&self, memory: &mut [u8], sheets: &mut [u32], schedule: &[u8]) -> u64 {
-        let mut lent = Lent::copy(memory, sheets, schedule, &[]);
-        let answer = self.0.plain_run(lent.memory.lent(), lent.sheets.lent(), lent.schedule.lent());
-        self.refuse_stray_writes(&mut lent, memory, sheets, schedule, &[]);
+    fn plain_run(
+        &self,
+        memory: &mut [u8],
+        sheets: &mut [u32],
+        schedule: &[u8],
+        levels: &[u32],
+    ) -> u64 {
+        let mut lent = Lent::copy(memory, sheets, schedule, levels, &[]);
+        let answer = self.0.plain_run(
+            lent.memory.lent(),
+            lent.sheets.lent(),
+            lent.schedule.lent(),
+            lent.levels.lent(),
+        );
+        self.refuse_stray_writes(&mut lent, memory, sheets, schedule, levels, &[]);
         memory.copy_from_slice(lent.memory.lent());
         sheets.copy_from_slice(lent.sheets.lent());
         answer
@@ -117,16 +134,18 @@ impl Engine for Guarded<'_> {
         memory: &mut [u8],
         sheets: &mut [u32],
         schedule: &[u8],
+        levels: &[u32],
         table: &mut [u64],
     ) -> u64 {
-        let mut lent = Lent::copy(memory, sheets, schedule, table);
+        let mut lent = Lent::copy(memory, sheets, schedule, levels, table);
         let answer = self.0.fast_run(
             lent.memory.lent(),
             lent.sheets.lent(),
             lent.schedule.lent(),
+            lent.levels.lent(),
             lent.table.lent(),
         );
-        self.refuse_stray_writes(&mut lent, memory, sheets, schedule, table);
+        self.refuse_stray_writes(&mut lent, memory, sheets, schedule, levels, table);
         memory.copy_from_slice(lent.memory.lent());
         sheets.copy_from_slice(lent.sheets.lent());
         table.copy_from_slice(lent.table.lent());
@@ -136,7 +155,7 @@ impl Engine for Guarded<'_> {
 
 #[cfg(test)]
 mod tests {
-    use super::Zoned;
+    use super::{Lent, Zoned};
 
     #[test]
     fn a_write_beside_what_is_lent_is_noticed() {
@@ -151,5 +170,21 @@ mod tests {
                 zoned.items[place] = 7;
             }
         }
+    }
+    /// What is only read may change nowhere.
+    #[test]
+    fn a_write_to_what_is_only_read_is_noticed() {
+        let mut lent = Lent::copy(&[1; 8], &[2; 8], &[3; 8], &[4; 8], &[5; 8]);
+        assert_eq!(lent.broken(&[3; 8], &[4; 8]), None);
+        lent.memory.lent().fill(0);
+        lent.sheets.lent().fill(0);
+        lent.table.lent().fill(0);
+        assert_eq!(lent.broken(&[3; 8], &[4; 8]), None);
+        lent.levels.lent()[7] = 0;
+        assert_eq!(lent.broken(&[3; 8], &[4; 8]), Some("the levels"));
+        lent.schedule.lent()[0] = 0;
+        assert_eq!(lent.broken(&[3; 8], &[4; 8]), Some("the schedule"));
+        lent.levels.items[super::ZONE + 8] = 0;
+        assert_eq!(lent.broken(&[3; 8], &[4; 8]), Some("around the levels"));
     }
 }

@@ -2,6 +2,8 @@
 
 use crate::card::reset_sheets;
 use crate::cases::Case;
+use crate::isa::{self, Insn, Kind};
+use crate::state::{place, IEE, SHEET_WORDS};
 use std::ops::Range;
 use std::path::{Path, PathBuf};
 
@@ -51,16 +53,37 @@ impl Image {
         RESET as usize / 4..self.words[0] as usize / 4
     }
 
+    /// The program with a handler for interrupts (02, note 4). It clears what is
+    /// latched and returns, and so needs no register.
+    pub fn with_handler(mut self) -> Image {
+        let clear = Insn::new(Kind::Mtspr, 0, 0, 0, 0x4802);
+        let back = Insn::new(Kind::Rfe, 0, 0, 0, 0);
+        for (index, form) in [clear, back].into_iter().enumerate() {
+            self.words[0x800 / 4 + index] = isa::encode(form.entry()) as u32;
+        }
+        self
+    }
+
     /// Cores just reset, the image in memory, no schedule and an empty table.
     pub fn case(&self, bytes: usize, cores: usize) -> Case {
         let mut case = Case {
             memory: vec![0; bytes],
             sheets: reset_sheets(cores, RESET),
             schedule: vec![],
+            levels: vec![],
             table: vec![0; bytes / 4],
         };
         for (index, &word) in self.words.iter().enumerate() {
             case.set_word(index, word);
+        }
+        case
+    }
+
+    /// The same with interrupts enabled on every core.
+    pub fn interruptible(&self, bytes: usize, cores: usize) -> Case {
+        let mut case = self.case(bytes, cores);
+        for sheet in case.sheets.chunks_mut(SHEET_WORDS) {
+            sheet[place::SR] |= IEE;
         }
         case
     }

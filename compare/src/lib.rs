@@ -17,6 +17,7 @@ pub mod exec;
 pub mod guard;
 pub mod image;
 pub mod isa;
+pub mod levels;
 pub mod programs;
 pub mod rng;
 pub mod runs;

@@ -7,11 +7,14 @@
 
 use crate::isa::{self, Insn, Kind, KINDS, TABLE};
 use crate::rng::Rng;
-use crate::state::{OVE, SR_RESET};
+use crate::state::{IEE, OVE, SR_RESET};
 
-/// The special registers there are, MACLO and MACHI three times each.
-const SPECIAL: [u32; 12] =
-    [17, 32, 48, 64, 128, 129, 0x2801, 0x2801, 0x2801, 0x2802, 0x2802, 0x2802];
+/// The special registers of 01.
+const OF_01: [u32; 6] = [17, 32, 48, 64, 128, 129];
+/// MACLO and MACHI; PICMR and PICSR.
+const OF_02: [u32; 4] = [0x2801, 0x2802, PICMR, PICSR];
+const PICMR: u32 = 0x4800;
+const PICSR: u32 = 0x4802;
 
 /// A word of a kind, with random fields and random reserved bits.
 pub fn word_of_kind(rng: &mut Rng, kind: Kind) -> u32 {
@@ -283,8 +286,9 @@ fn special(rng: &mut Rng) -> Insn {
     let number = match rng.below(12) {
         0 => rng.next_u32() & 0xffff,
         1 => rng.below(200) as u32,
-        2 => rng.pick(&[0x2800, 0x2803]),
-        _ => rng.pick(&SPECIAL),
+        2 | 3 => rng.pick(&[0x2800, 0x2803, 0x4801, 0x4801, 0x4803]),
+        4..=6 => rng.pick(&OF_01),
+        _ => rng.pick(&OF_02),
     };
     let base = if rng.one_in(10) { source(rng) } else { 0 };
     if rng.one_in(2) {
@@ -319,10 +323,10 @@ pub fn program_word(rng: &mut Rng) -> u32 {
         22..=39 => product(rng),
         40..=46 => comparison(rng),
         47..=59 => control(rng),
-        60..=67 => load(rng),
-        68..=78 => store(rng),
-        79..=85 => atomic(rng),
-        86..=91 => special(rng),
+        60..=66 => load(rng),
+        67..=76 => store(rng),
+        77..=83 => atomic(rng),
+        84..=91 => special(rng),
         92..=95 => quiet(rng),
         96..=97 => system(rng),
         _ => return any_word(rng),
@@ -360,6 +364,49 @@ pub fn trapping_start(rng: &mut Rng) -> [u32; 10] {
         product(rng),
     ];
     forms.map(|form| isa::encode(form.entry()) as u32)
+}
+
+/// A handler for interrupts. It clears what is latched, or what it read of it, or
+/// the lowest line alone; or it masks lines first; or it does nothing, so that the
+/// next interrupt comes at once.
+pub fn interrupt_handler(rng: &mut Rng) -> Vec<u32> {
+    let (read, back) = (insn(Kind::Mfspr, 30, 0, 0, PICSR), insn(Kind::Rfe, 0, 0, 0, 0));
+    match rng.below(12) {
+        0..=5 => words(&[write(PICSR, 0), back]),
+        6 | 7 => words(&[read, insn(Kind::Xori, 30, 30, 0, u32::MAX), write(PICSR, 30), back]),
+        8 | 9 => words(&[read, insn(Kind::Addi, 30, 30, 0, u32::MAX), write(PICSR, 30), back]),
+        10 => words(&[write(PICMR, source(rng)), write(PICSR, 0), back]),
+        _ => words(&[back]),
+    }
+}
+
+fn write(special: u32, value: u8) -> Insn {
+    insn(Kind::Mtspr, 0, 0, value, special)
+}
+
+fn words(forms: &[Insn]) -> Vec<u32> {
+    forms.iter().map(|form| isa::encode(form.entry()) as u32).collect()
+}
+
+/// Words that a line may rise in: a jump and a slot that clears PICSR or raises, a
+/// new mask and then IEE, or the counting loop.
+pub fn interruptible_words(rng: &mut Rng) -> Vec<u32> {
+    match rng.below(3) {
+        0 => [words(&[insn(Kind::J, 0, 0, 0, 8)]), interruptible_slot(rng)].concat(),
+        1 => words(&[
+            write(PICMR, source(rng)),
+            insn(Kind::Mfspr, 31, 0, 0, 17),
+            insn(Kind::Ori, 31, 31, 0, IEE),
+            write(17, 31),
+        ]),
+        _ => counting_loop().to_vec(),
+    }
+}
+
+/// The slot of these.
+pub fn interruptible_slot(rng: &mut Rng) -> Vec<u32> {
+    let trap = insn(Kind::Trap, 0, 0, 0, 0);
+    words(&[rng.pick(&[write(PICSR, 0), write(PICSR, 6), trap])])
 }
 
 /// A handler that goes on `skip` bytes after the instruction that raised.

@@ -49,7 +49,7 @@ impl Answer {
     }
 }
 
-/// The number of cores, if the sheets are 44 words for each of 1 to 4.
+/// The number of cores, if the sheets are 46 words for each of 1 to 4.
 pub fn core_count(sheets: &[u32]) -> Option<usize> {
     let cores = sheets.len() / SHEET_WORDS;
     let whole = sheets.len().is_multiple_of(SHEET_WORDS);
@@ -61,8 +61,9 @@ pub fn memory_is_good(memory: &[u8]) -> bool {
     (MEMORY_LEAST..=MEMORY_MOST).contains(&memory.len()) && memory.len().is_multiple_of(4)
 }
 
-/// The first of refusals 1 to 5 that is met, or 0.
-pub fn plain_refusal(memory: &[u8], sheets: &[u32], schedule: &[u8]) -> u8 {
+/// The first of refusals 1 to 5 and 11 that is met, or 0. 02, note 4, has 11 "after
+/// 5".
+pub fn plain_refusal(memory: &[u8], sheets: &[u32], schedule: &[u8], levels: &[u32]) -> u8 {
     if !memory_is_good(memory) {
         return 1;
     }
@@ -78,12 +79,21 @@ pub fn plain_refusal(memory: &[u8], sheets: &[u32], schedule: &[u8]) -> u8 {
     if schedule.iter().any(|&entry| usize::from(entry) >= cores) {
         return 5;
     }
+    if levels.len() != schedule.len() {
+        return 11;
+    }
     0
 }
 
-/// The first of refusals 1 to 7 that is met, or 0.
-pub fn fast_refusal(memory: &[u8], sheets: &[u32], schedule: &[u8], table: &[u64]) -> u8 {
-    let plain = plain_refusal(memory, sheets, schedule);
+/// The first of refusals 1 to 5, 11, 6 and 7 that is met, or 0.
+pub fn fast_refusal(
+    memory: &[u8],
+    sheets: &[u32],
+    schedule: &[u8],
+    levels: &[u32],
+    table: &[u64],
+) -> u8 {
+    let plain = plain_refusal(memory, sheets, schedule, levels);
     if plain != 0 {
         return plain;
     }
@@ -120,19 +130,20 @@ fn write_sheets(cores: &[Core], sheets: &mut [u32]) {
 }
 
 /// The plain run: fetches, decodes and executes every entry afresh.
-pub fn plain_run(memory: &mut [u8], sheets: &mut [u32], schedule: &[u8]) -> Answer {
-    let refusal = plain_refusal(memory, sheets, schedule);
+pub fn plain_run(memory: &mut [u8], sheets: &mut [u32], schedule: &[u8], levels: &[u32]) -> Answer {
+    let refusal = plain_refusal(memory, sheets, schedule, levels);
     if refusal != 0 {
         return Answer::refused(refusal);
     }
     let mut all = read_sheets(sheets);
     let cores = &mut all[..sheets.len() / SHEET_WORDS];
     let mut answer = Answer::default();
-    for &entry in schedule {
+    for (&entry, &lines) in schedule.iter().zip(levels) {
         let who = usize::from(entry);
         if cores[who].running {
             answer.executed += 1;
-            answer.note(plain_step(memory, cores, who));
+            let interrupt = exec::interrupt(&mut cores[who], lines);
+            answer.note(interrupt.unwrap_or_else(|| plain_step(memory, cores, who)));
         }
     }
     write_sheets(cores, sheets);
@@ -148,25 +159,30 @@ pub fn plain_step(memory: &mut [u8], cores: &mut [Core], who: usize) -> Step {
     }
 }
 
-/// The fast run as "Fast run" words it: the table's entries are executed.
+/// The fast run as "Fast run" words it: the table's entries are executed. An
+/// interrupt fetches nothing, so it neither counts as reused nor fills an entry.
 pub fn fast_run(
     memory: &mut [u8],
     sheets: &mut [u32],
     schedule: &[u8],
+    levels: &[u32],
     table: &mut [u64],
 ) -> Answer {
-    let refusal = fast_refusal(memory, sheets, schedule, table);
+    let refusal = fast_refusal(memory, sheets, schedule, levels, table);
     if refusal != 0 {
         return Answer::refused(refusal);
     }
     let mut all = read_sheets(sheets);
     let cores = &mut all[..sheets.len() / SHEET_WORDS];
     let mut answer = Answer::default();
-    for &entry in schedule {
+    for (&entry, &lines) in schedule.iter().zip(levels) {
         let who = usize::from(entry);
         if cores[who].running {
             answer.executed += 1;
-            let (step, reused) = fast_step(memory, cores, who, table);
+            let (step, reused) = match exec::interrupt(&mut cores[who], lines) {
+                Some(interrupt) => (interrupt, false),
+                None => fast_step(memory, cores, who, table),
+            };
             answer.note(step);
             answer.reused += u32::from(reused);
         }
@@ -200,14 +216,16 @@ pub fn fast_step(
 }
 
 /// The fast run as "History" words it: a plain run beside which it is noted
-/// what words are held; the table is written from that at the end.
+/// what words are held; the table is written from that at the end. An interrupt
+/// is no fetch and makes no word held.
 pub fn fast_run_by_history(
     memory: &mut [u8],
     sheets: &mut [u32],
     schedule: &[u8],
+    levels: &[u32],
     table: &mut [u64],
 ) -> Answer {
-    let refusal = fast_refusal(memory, sheets, schedule, table);
+    let refusal = fast_refusal(memory, sheets, schedule, levels, table);
     if refusal != 0 {
         return Answer::refused(refusal);
     }
@@ -215,12 +233,14 @@ pub fn fast_run_by_history(
     let mut all = read_sheets(sheets);
     let cores = &mut all[..sheets.len() / SHEET_WORDS];
     let mut answer = Answer::default();
-    for &entry in schedule {
+    for (&entry, &lines) in schedule.iter().zip(levels) {
         let who = usize::from(entry);
         if cores[who].running {
             answer.executed += 1;
-            answer.reused += u32::from(hold(&mut held, cores[who].pc));
-            let step = plain_step(memory, cores, who);
+            let step = exec::interrupt(&mut cores[who], lines).unwrap_or_else(|| {
+                answer.reused += u32::from(hold(&mut held, cores[who].pc));
+                plain_step(memory, cores, who)
+            });
             answer.note(step);
             if let Some(word) = step.stored {
                 held[word as usize / 4] = false;

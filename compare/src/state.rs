@@ -1,9 +1,10 @@
-//! One core, and the sheet of 44 words it is lent on ("Sheets"; 02, note 2).
+//! One core, and the sheet of 46 words it is lent on ("Sheets"; 02, notes 2
+//! and 4).
 
 use crate::isa::Reg;
 
 /// Words on one core's sheet.
-pub const SHEET_WORDS: usize = 44;
+pub const SHEET_WORDS: usize = 46;
 
 /// Bits of SR and ESR.
 pub const SM: u32 = 1 << 0;
@@ -21,6 +22,9 @@ pub const SR_BITS: u32 = SM | TEE | IEE | F | CY | OV | OVE | DSX;
 /// SR and ESR at reset.
 pub const SR_RESET: u32 = FIXED_ONE | SM;
 
+/// 02, note 4, of PICMR: "its bits 0 and 1 always 1", and "PICMR 3 at reset".
+pub const UNMASKABLE: u32 = 3;
+
 /// The value of a sheet's mode word for a running core; 0 is halted.
 pub const RUNNING: u32 = 3;
 
@@ -36,9 +40,12 @@ pub mod place {
     pub const LINK: usize = 39;
     pub const LINK_ADDRESS: usize = 40;
     pub const MODE: usize = 41;
-    // 02, note 2: "MACHI then MACLO last".
+    // 02, note 2: "MACHI then MACLO".
     pub const MACHI: usize = 42;
     pub const MACLO: usize = 43;
+    // 02, note 4: "Each sheet ends with PICMR then PICSR".
+    pub const PICMR: usize = 44;
+    pub const PICSR: usize = 45;
 }
 
 /// One core while it runs.
@@ -57,12 +64,22 @@ pub struct Core {
     pub running: bool,
     pub machi: u32,
     pub maclo: u32,
+    pub picmr: u32,
+    pub picsr: u32,
 }
 
 impl Core {
-    /// "Reset: PC the entry, SR and ESR 00008001, mode 3, the rest 0."
+    /// "Reset: PC the entry, SR and ESR 00008001, mode 3, the rest 0", but for
+    /// PICMR.
     pub fn reset(entry: u32) -> Core {
-        Core { pc: entry, sr: SR_RESET, esr: SR_RESET, running: true, ..Core::default() }
+        Core {
+            pc: entry,
+            sr: SR_RESET,
+            esr: SR_RESET,
+            running: true,
+            picmr: UNMASKABLE,
+            ..Core::default()
+        }
     }
 
     /// Reads a sheet that `sheet_is_good` holds of.
@@ -83,6 +100,8 @@ impl Core {
             running: sheet[place::MODE] == RUNNING,
             machi: sheet[place::MACHI],
             maclo: sheet[place::MACLO],
+            picmr: sheet[place::PICMR],
+            picsr: sheet[place::PICSR],
         }
     }
 
@@ -101,6 +120,8 @@ impl Core {
         sheet[place::MODE] = if self.running { RUNNING } else { 0 };
         sheet[place::MACHI] = self.machi;
         sheet[place::MACLO] = self.maclo;
+        sheet[place::PICMR] = self.picmr;
+        sheet[place::PICSR] = self.picsr;
     }
 
     /// A register's value.
@@ -152,8 +173,8 @@ pub fn allowed_sr(value: u32) -> u32 {
     value & SR_BITS | FIXED_ONE
 }
 
-/// Whether a sheet of 44 words keeps every rule of "Sheets"; MACHI and MACLO
-/// may be anything.
+/// Whether a sheet of 46 words keeps every rule of "Sheets" and "a PICMR without
+/// its low two bits meets 3"; MACHI, MACLO and PICSR may be anything.
 pub fn sheet_is_good(sheet: &[u32]) -> bool {
     let aligned = [place::PC, place::TARGET, place::EPCR, place::LINK_ADDRESS];
     let status = [place::SR, place::ESR];
@@ -167,4 +188,5 @@ pub fn sheet_is_good(sheet: &[u32]) -> bool {
         && link <= 1
         && (link == 1 || sheet[place::LINK_ADDRESS] == 0)
         && (sheet[place::MODE] == 0 || sheet[place::MODE] == RUNNING)
+        && sheet[place::PICMR] & UNMASKABLE == UNMASKABLE
 }

@@ -17,7 +17,7 @@ use compare::guard::Guarded;
 use compare::isa;
 use compare::rng::Rng;
 use compare::runs::{MEMORY_LEAST, MEMORY_MOST, SCHEDULE_MOST};
-use compare::state::place;
+use compare::state::{place, Core, IEE, SHEET_WORDS};
 use std::collections::BTreeMap;
 use std::ops::Range;
 use std::sync::atomic::{AtomicU64, Ordering};
@@ -83,12 +83,12 @@ fn one(seed: u64) -> Range<u64> {
 #[test]
 fn accepted_cases() {
     let counts: Mutex<Counts> = Mutex::default();
-    for_seeds("accepted cases", 1_000_000..1_150_000, |seed| {
+    for_seeds("accepted cases", 1_000_000..1_225_000, |seed| {
         let case = cases::accepted_case(&mut Rng::new(seed), 600);
         counts.lock().expect("no panic").watch(&case);
         PAIR.case(&case, 0).map_err(|text| format!("seed {seed}: {text}"))
     });
-    counts.into_inner().expect("no panic").expect("accepted cases", [50_000; 2]);
+    counts.into_inner().expect("no panic").expect("accepted cases", [50_000, 50_000, 12]);
 }
 
 /// Many short schedules: the edges of the cases themselves.
@@ -106,7 +106,7 @@ fn runs_on_what_the_last_left() {
         for _ in 0..4 {
             PAIR.case(&case, 0).map_err(|text| format!("seed {seed}: {text}"))?;
             case = check::after_fast(PAIR.other, &case).case;
-            case.schedule = cases::schedule(&mut rng, case.cores(), 200);
+            case.throw_schedule(&mut rng, 200);
         }
         Ok(())
     });
@@ -122,7 +122,9 @@ fn broken_cases() {
     });
     let met = met.into_inner().expect("no panic");
     show(&format!("broken cases, how many of each refusal: {met:?}"));
-    assert!((1..=7).all(|refusal| met.get(&refusal).is_some_and(|&count| count > 1_000)));
+    assert!(cases::ORDER
+        .iter()
+        .all(|refusal| met.get(refusal).is_some_and(|&count| count > 1_000)));
 }
 
 #[test]
@@ -182,6 +184,7 @@ fn the_greatest_counts() {
             memory: u32::to_be_bytes(word).repeat(MEMORY_LEAST / 4),
             sheets: compare::card::reset_sheets(1, 0x100),
             schedule: vec![0; SCHEDULE_MOST],
+            levels: vec![0; SCHEDULE_MOST],
             table: vec![isa::decode(word); MEMORY_LEAST / 4],
         };
         if let Err(text) = PAIR.case(&case, 0) {
@@ -194,26 +197,61 @@ fn the_greatest_counts() {
     }
 }
 
+/// An interrupt at every second entry, and l.rfe between them.
+#[test]
+fn the_most_interrupts() {
+    let mut case = Case {
+        memory: u32::to_be_bytes(0x2400_0000).repeat(MEMORY_LEAST / 4),
+        sheets: compare::card::reset_sheets(1, 0x100),
+        schedule: vec![0; SCHEDULE_MOST],
+        levels: vec![u32::MAX; SCHEDULE_MOST],
+        table: vec![0; MEMORY_LEAST / 4],
+    };
+    case.sheets[place::SR] |= IEE;
+    if let Err(text) = PAIR.case(&case, 0) {
+        stop("most interrupts", &text);
+    }
+    assert_eq!(check::after_fast(PAIR.other, &case).answer.raised, 32_768);
+}
+
+/// Zeros of these lengths, but for good sheets.
+fn lengths(memory: usize, sheets: &[u32], [entries, levels]: [usize; 2], table: usize) {
+    let case = Case {
+        memory: vec![0; memory],
+        sheets: sheets.to_vec(),
+        schedule: vec![0; entries],
+        levels: vec![0; levels],
+        table: vec![0; table],
+    };
+    if let Err(text) = check::same_case(PAIR.one, PAIR.other, &case) {
+        stop("any lengths", &text);
+    }
+}
+
+/// So many words: as many whole sheets as they are, all good.
+fn good_sheets(words: usize) -> Vec<u32> {
+    let mut sheets = vec![0; words];
+    for sheet in sheets.chunks_exact_mut(SHEET_WORDS) {
+        Core::reset(0).to_sheet(sheet);
+    }
+    sheets
+}
+
 /// Nothing lent at all, and lengths that are each wrong, alone and together.
 #[test]
 fn any_lengths() {
     let memories = [0, 1, 3, 4, 4_092, 4_096, 4_097, 1_048_576, 1_048_580];
-    let sheets = [0, 1, 42, 43, 44, 45, 88, 168, 176, 177, 220, 4_400];
+    let sheets = [0, 1, 42, 43, 44, 45, 46, 47, 88, 92, 168, 176, 184, 185, 230, 4_600];
     let schedules = [0, 1, 65_536, 65_537];
     let tables = [0, 1, 1_023, 1_024, 1_025, 262_144];
     for memory in memories {
         for sheet_words in sheets {
             for entries in schedules {
                 for table in tables {
-                    let case = Case {
-                        memory: vec![0; memory],
-                        sheets: vec![0; sheet_words],
-                        schedule: vec![0; entries],
-                        table: vec![0; table],
-                    };
-                    if let Err(text) = check::same_case(PAIR.one, PAIR.other, &case) {
-                        stop("any lengths", &text);
-                    }
+                    lengths(memory, &vec![0; sheet_words], [entries, entries], table);
+                    let good = good_sheets(sheet_words);
+                    lengths(memory, &good, [entries, entries], table);
+                    lengths(memory, &good, [entries, 1], table);
                 }
             }
         }
@@ -233,5 +271,5 @@ fn the_archive_keeps_nothing() {
         Archive.name()
     );
     let engine: &dyn Engine = &Archive;
-    assert_eq!(engine.plain_run(&mut [], &mut [], &[]), 1 << 60);
+    assert_eq!(engine.plain_run(&mut [], &mut [], &[], &[]), 1 << 60);
 }

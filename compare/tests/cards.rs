@@ -327,7 +327,8 @@ fn good_cards_give_accepted_runs() {
         let job = parse(&text).expect("a good card");
         let sheets = card::reset_sheets(job.cores, job.entry);
         let table = vec![0; job.memory / 4];
-        let refusal = runs::fast_refusal(&vec![0; job.memory], &sheets, &job.schedule, &table);
+        let (memory, levels) = (vec![0; job.memory], vec![0; job.schedule.len()]);
+        let refusal = runs::fast_refusal(&memory, &sheets, &job.schedule, &levels, &table);
         assert_eq!(refusal, 0, "seed {seed}");
     }
 }

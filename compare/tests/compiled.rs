@@ -66,6 +66,8 @@ struct Ran {
     executed: u32,
     raised: u32,
     reused: u32,
+    /// Exceptions beyond the program's own.
+    interrupts: u32,
 }
 
 impl Ran {
@@ -73,7 +75,7 @@ impl Ran {
     /// an entry is filled at the end if its word was fetched after its last store.
     fn refilled(&self) -> u32 {
         let held = self.case.table.iter().filter(|&&entry| entry != 0).count();
-        self.executed - self.reused - held as u32
+        self.executed - self.interrupts - self.reused - held as u32
     }
 
     /// What main returned on a core.
@@ -134,18 +136,51 @@ fn call(case: &Case) -> Result<check::Left, String> {
     Ok(one.fast)
 }
 
+/// How a program is run.
+#[derive(Clone, Copy, Debug)]
+struct Way {
+    cores: usize,
+    manner: Manner,
+    /// Of each call.
+    entries: usize,
+    /// A line is high once in so many entries; with 0 all lines are low.
+    rare: usize,
+}
+
+impl Way {
+    fn start(&self, image: &Image) -> Case {
+        if self.rare == 0 {
+            image.case(image::BYTES, self.cores)
+        } else {
+            image.clone().with_handler().interruptible(image::BYTES, self.cores)
+        }
+    }
+
+    /// Lines 0 and 1 now and then, and any masked ones.
+    fn lines(&self, rng: &mut Rng) -> u32 {
+        if self.rare == 0 {
+            return 0;
+        }
+        let pulse = if rng.one_in(self.rare) { rng.pick(&[1, 2, 3]) } else { 0 };
+        rng.next_u32() & !3 | pulse
+    }
+}
+
 /// Calls until every core has halted.
-fn run(name: &str, image: &Image, cores: usize, manner: Manner, entries: usize) -> Ran {
-    let mut ran = Ran { case: image.case(image::BYTES, cores), executed: 0, raised: 0, reused: 0 };
-    let mut rng = Rng::new(entries as u64);
-    for _ in 0..CALLS_MOST * SCHEDULE_MOST / entries {
-        ran.case.schedule = schedule(&mut rng, manner, cores, entries);
+fn run(name: &str, image: &Image, way: Way, raised: u32) -> Ran {
+    let case = way.start(image);
+    let mut ran = Ran { case, executed: 0, raised: 0, reused: 0, interrupts: 0 };
+    let mut rng = Rng::new(way.entries as u64);
+    for _ in 0..CALLS_MOST * SCHEDULE_MOST / way.entries {
+        ran.case.schedule = schedule(&mut rng, way.manner, way.cores, way.entries);
+        ran.case.levels = (0..way.entries).map(|_| way.lines(&mut rng)).collect();
         let left = call(&ran.case).unwrap_or_else(|text| stop(name, &text));
         ran.executed += left.answer.executed;
         ran.raised += left.answer.raised;
         ran.reused += left.answer.reused;
         ran.case = left.case;
         if !is_running(&ran.case) {
+            ran.interrupts = ran.raised - raised;
             return ran;
         }
     }
@@ -176,7 +211,8 @@ fn run_image(program: &Program, file: &str, image: &Image) {
     for &cores in program.cores {
         for &manner in manners(cores) {
             for entries in [SCHEDULE_MOST, 9_973] {
-                let ran = run(file, image, cores, manner, entries);
+                let way = Way { cores, manner, entries, rare: 0 };
+                let ran = run(file, image, way, program.raised);
                 assert_eq!(ran.raised, program.raised, "{file}");
                 assert_eq!(ran.refilled(), program.refilled, "{file}");
                 (program.check)(&ran);
@@ -186,6 +222,33 @@ fn run_image(program: &Program, file: &str, image: &Image) {
         }
     }
     show(&format!("{file}: right {runs} times, {executed} instructions in all"));
+}
+
+/// Lamp changes while the program runs: the same results.
+fn run_interrupted(program: &Program, file: &str, image: &Image) {
+    let (mut executed, mut interrupts) = (0, 0);
+    for &cores in program.cores {
+        for &manner in manners(cores) {
+            let way = Way { cores, manner, entries: 9_973, rare: 40 };
+            let ran = run(file, image, way, program.raised);
+            assert_eq!(ran.refilled(), program.refilled, "{file}");
+            (program.check)(&ran);
+            executed += ran.executed;
+            interrupts += ran.interrupts;
+        }
+    }
+    show(&format!("{file}: right with {interrupts} interrupts, {executed} instructions in all"));
+    assert!(interrupts >= executed / 100, "{file}: only {interrupts} interrupts");
+}
+
+#[test]
+fn stored_images_with_interrupts() {
+    for program in &PROGRAMS {
+        for suffix in SUFFIXES {
+            let file = format!("{}{suffix}", program.name);
+            run_interrupted(program, &file, &Image::load(&image::folder(), &file));
+        }
+    }
 }
 
 fn run_folder(folder: &Path, program: &Program) {

@@ -72,7 +72,7 @@ fn m12_illegal_word_in_an_untaken_branchs_slot() {
 
 #[test]
 fn examples_of_the_refusals() {
-    let mut good = vec![0; 44];
+    let mut good = vec![0; 46];
     Core::reset(0).to_sheet(&mut good);
     let mut memory = vec![0; 4_096];
     memory[0..4].copy_from_slice(&0x1500_0000u32.to_be_bytes());
@@ -81,15 +81,19 @@ fn examples_of_the_refusals() {
     broken[0] = 1;
     let mut filled = table.clone();
     filled[0] = 1 << 56;
-    let refusal = runs::fast_refusal;
+    let refusal = |memory: &[u8], sheets: &[u32], schedule: &[u8], table: &[u64]| {
+        runs::fast_refusal(memory, sheets, schedule, &vec![0; schedule.len()], table)
+    };
     assert_eq!(refusal(&memory, &good, &[0], &table), 0);
     assert_eq!(refusal(&vec![0; 4_098], &good, &[0], &table), 1);
     assert_eq!(refusal(&memory, &[0; 43], &[0], &table), 2);
     assert_eq!(refusal(&memory, &good[..42], &[0], &table), 2);
+    assert_eq!(refusal(&memory, &good[..44], &[0], &table), 2);
     assert_eq!(refusal(&memory, &broken, &[0], &table), 3);
     assert_eq!(refusal(&memory, &good, &vec![0; 65_537], &table), 4);
     assert_eq!(refusal(&memory, &good, &[1], &table), 5);
     assert_eq!(refusal(&memory, &good, &[0], &table[..1_023]), 6);
     assert_eq!(refusal(&memory, &good, &[0], &filled), 7);
+    assert_eq!(runs::fast_refusal(&memory, &good, &[0], &[], &table), 11);
     assert_eq!(isa::encode(0), 1 << 32);
 }

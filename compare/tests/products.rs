@@ -235,6 +235,7 @@ fn counts_of_products() {
                 memory: vec![0; BYTES],
                 sheets: card::reset_sheets(1, 0x100),
                 schedule: vec![0],
+                levels: vec![0],
                 table: vec![0; BYTES / 4],
             };
             case.set_word(0x100 / 4, word_of(kind, 5, y));
@@ -370,25 +371,27 @@ fn special_registers() {
     assert_eq!((bench.cores[1].machi, bench.cores[1].maclo), (0, 0));
 }
 
-/// "Sheets grow to 44 words, MACHI then MACLO last".
+/// "Sheets grow to 44 words, MACHI then MACLO last": after note 4 two more words
+/// follow.
 #[test]
 fn places_on_a_sheet() {
     let mut case = Case {
         memory: vec![0; BYTES],
         sheets: card::reset_sheets(2, 0x100),
         schedule: vec![1],
+        levels: vec![0],
         table: vec![0; BYTES / 4],
     };
-    assert_eq!((case.sheets.len(), &case.sheets[42..44]), (88, [0, 0].as_slice()));
+    assert_eq!((case.sheets.len(), &case.sheets[42..44]), (92, [0, 0].as_slice()));
     // 3 times 5 added to 6 ffffffff.
     case.set_word(0x100 / 4, asm(Kind::Mac, 0, 3, 4, 0));
-    (case.sheets[44 + 3], case.sheets[44 + 4]) = (3, 5);
-    (case.sheets[44 + 42], case.sheets[44 + 43]) = (6, 0xffff_ffff);
+    (case.sheets[46 + 3], case.sheets[46 + 4]) = (3, 5);
+    (case.sheets[46 + 42], case.sheets[46 + 43]) = (6, 0xffff_ffff);
     for engine in engines() {
         for left in [check::after_plain(engine, &case), check::after_fast(engine, &case)] {
             assert_eq!(left.answer.refusal, 0);
             assert_eq!(left.case.sheets[42..44], [0, 0], "{}", engine.name());
-            assert_eq!(left.case.sheets[86..88], [7, 14], "{}", engine.name());
+            assert_eq!(left.case.sheets[88..90], [7, 14], "{}", engine.name());
         }
     }
 }

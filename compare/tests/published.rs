@@ -1,8 +1,8 @@
 //! What documents 000 and 001 print, with its section: layouts, and results of
 //! operations; and what an assembler makes of every kind. Asked of every
 //! engine. Where document 01 decides otherwise, its answer stands. For l.addi
-//! and l.addic it is 001 that counts (02, note 1), and for products and
-//! quotients 001 as note 2 words it.
+//! and l.addic it is 001 that counts (02, note 1), and for products, quotients
+//! and interrupts 001 as notes 2 and 4 word it.
 
 mod common;
 
@@ -14,7 +14,7 @@ use compare::image;
 use compare::isa::{Insn, Kind, Reg, KINDS};
 use compare::rng::Rng;
 use compare::state::place::{DELAY, EEAR, EPCR, ESR, LINK, LINK_ADDRESS, MODE, PC, SR, TARGET};
-use compare::state::place::{MACHI, MACLO};
+use compare::state::place::{MACHI, MACLO, PICMR, PICSR};
 use compare::state::{CY, DSX, F, IEE, OV, OVE, SM, SR_RESET, TEE};
 use std::collections::BTreeSet;
 use std::path::Path;
@@ -313,6 +313,8 @@ struct Outcome {
     before: Vec<(usize, u32)>,
     after: Vec<(usize, u32)>,
     data: u32,
+    /// The lines at each word of code; past these they are low.
+    lines: Vec<u32>,
 }
 
 fn result(
@@ -322,7 +324,7 @@ fn result(
     after: &[(usize, u32)],
 ) -> Outcome {
     let (code, before, after) = (code.to_vec(), before.to_vec(), after.to_vec());
-    Outcome { source, code, before, after, data: DATA }
+    Outcome { source, code, before, after, data: DATA, lines: vec![] }
 }
 
 const NOP: u32 = 0x1500_0000;
@@ -724,6 +726,62 @@ fn of_exceptions() -> Vec<Outcome> {
     ]
 }
 
+const ON: u32 = SR_RESET | IEE;
+
+/// Code run from START with these lines, an entry for each of its words.
+fn with_lines(
+    source: &'static str,
+    code: &[u32],
+    lines: &[u32],
+    before: &[(usize, u32)],
+    after: &[(usize, u32)],
+) -> Outcome {
+    Outcome { lines: lines.to_vec(), ..result(source, code, before, after) }
+}
+
+/// 000 table 3.8: the vector of interrupts; 001 13: lines and masks.
+fn of_interrupts() -> Vec<Outcome> {
+    let one = |source, lines, before: &[_], after: &[_]| {
+        with_lines(source, &[NOP], &[lines], before, after)
+    };
+    let read = |source, spr, lines, before: &[_], value| {
+        with_lines(source, &[asm(Mfspr, 5, 0, 0, spr)], &[lines], before, &[(5, value)])
+    };
+    let write = [asm(Mtspr, 0, 0, 4, 0x4800)];
+    let taken = [(PC, 0x800), (EPCR, START), (ESR, ON), (SR, SR_RESET), (EEAR, 7)];
+    let last = [(PC, 0x800), (PICSR, 1 << 31)];
+    let not_taken = [(PC, START + 4), (PICSR, 0)];
+    vec![
+        one("000 table 3.8: External Interrupt 0x8", 1, &[(SR, ON), (EEAR, 7)], &taken),
+        one("000 table 3.2: IEE", 1, &[], &[(PC, START + 4), (SR, SR_RESET), (PICSR, 1)]),
+        one("001 13: up to 32 lines", 1 << 31, &[(PICMR, MINUS_1), (SR, ON)], &last),
+        one("001 13: PICMR is a mask", !3, &[(SR, ON)], &not_taken),
+        one("001 13: 0 and 1 cannot be masked", 2, &[(SR, ON)], &[(PC, 0x800), (PICSR, 2)]),
+        with_lines("001 13: tied to 1", &write, &[0], &[(PICMR, 7)], &[(PICMR, 3)]),
+        read("001 13: PICSR tells the lines", 0x4802, 6, &[(PICMR, 7)], 6),
+        read("02: PICMR at 4800", 0x4800, 0, &[(PICMR, 0x73)], 0x73),
+        read("02: PICMR 3 at reset", 0x4800, 0, &[], 3),
+    ]
+}
+
+/// 001 13.1: what is latched, and the usual sequence of a handler.
+fn of_latches() -> Vec<Outcome> {
+    let clear = asm(Mtspr, 0, 0, 4, 0x4802);
+    let handler = [clear, asm(Rfe, 0, 0, 0, 0), NOP];
+    let back = START + 8;
+    let before = [(PICSR, 1), (EPCR, back), (ESR, ON)];
+    let again = [(PC, 0x800), (EPCR, back), (PICSR, 1)];
+    let served = [(PC, back + 4), (SR, ON), (PICSR, 0)];
+    let waiting = [(SR, ON), (PICSR, 4)];
+    vec![
+        with_lines("001 13.1: latched", &[NOP, NOP], &[2, 0], &[], &[(PICSR, 2)]),
+        with_lines("001 13.1: latched, then taken", &[NOP], &[0], &waiting, &[(PC, 0x800)]),
+        with_lines("001 13.1: cleared", &[clear], &[0], &[(PICSR, 5), (4, 4)], &[(PICSR, 4)]),
+        with_lines("001 13.1: retriggers at once", &handler, &[1, 1, 1], &before, &again),
+        with_lines("001 13.1: deasserted in time", &handler, &[1, 0, 0], &before, &served),
+    ]
+}
+
 /// The case before a result: l.nop everywhere but for its code and data.
 fn case_of(result: &Outcome) -> Case {
     let bytes = 4_096;
@@ -731,8 +789,10 @@ fn case_of(result: &Outcome) -> Case {
         memory: NOP.to_be_bytes().repeat(bytes / 4),
         sheets: reset_sheets(1, START),
         schedule: vec![0; result.code.len()],
+        levels: result.lines.clone(),
         table: vec![0; bytes / 4],
     };
+    case.levels.resize(result.code.len(), 0);
     case.set_word(AT as usize / 4, DATA);
     for (index, &word) in result.code.iter().enumerate() {
         case.set_word(START as usize / 4 + index, word);
@@ -747,8 +807,9 @@ fn case_of(result: &Outcome) -> Case {
 fn results() {
     let on_numbers = [of_alu(), of_flags(), of_immediate_sums(), of_range()];
     let of_note_2 = [of_products(), of_quotients(), of_accumulators()];
+    let of_note_4 = [of_interrupts(), of_latches()];
     let others = [of_memory(), of_control(), of_special(), of_exceptions()];
-    let all = [on_numbers.as_slice(), &of_note_2, &others].concat().concat();
+    let all = [on_numbers.as_slice(), &of_note_2, &of_note_4, &others].concat().concat();
     for result in &all {
         let case = case_of(result);
         for engine in engines() {

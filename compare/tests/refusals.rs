@@ -16,6 +16,7 @@ fn good(cores: usize, bytes: usize) -> Case {
     Case {
         sheets: reset_sheets(cores, 0x100),
         schedule: vec![0, (cores - 1) as u8],
+        levels: vec![0; 2],
         table: vec![0; memory.len() / 4],
         memory,
     }
@@ -45,6 +46,8 @@ fn packed_answers() {
     assert_eq!(Answer::unpack(answer.pack()), answer);
     assert_eq!(Answer::refused(7).pack(), 7 << 60);
     assert_eq!(Answer::unpack(7 << 60), Answer::refused(7));
+    assert_eq!(Answer::refused(11).pack(), 11 << 60);
+    assert_eq!(Answer::unpack(11 << 60), Answer::refused(11));
 }
 
 #[test]
@@ -64,8 +67,10 @@ fn refusal_2_sheet_counts() {
     for cores in 1..=4 {
         assert_eq!(refusals(&good(cores, 4_096)), (0, 0));
     }
-    // 42 for each core were taken before note 2 of document 02.
-    for words in [0, 1, 42, 43, 45, 84, 87, 89, 126, 168, 175, 177, 210, 220, 440] {
+    // 42 for each core were taken before note 2 of document 02, 44 before note 4.
+    let old = [42, 84, 126, 168, 44, 88, 132, 176];
+    let others = [0, 1, 43, 45, 47, 87, 89, 91, 93, 175, 177, 183, 185, 210, 220, 230, 440, 460];
+    for words in [old.as_slice(), &others].concat() {
         let mut case = good(4, 4_096);
         case.sheets.resize(words, 0);
         assert_eq!(refusals(&case), (2, 2), "{words}");
@@ -97,6 +102,16 @@ const BROKEN: &[Change] = &[
     &[(place::MODE, 2)],
     &[(place::MODE, 4)],
     &[(place::MODE, 0x1_0003)],
+    &[(place::PICMR, 0)],
+    &[(place::PICMR, 1)],
+    &[(place::PICMR, 2)],
+    &[(place::PICMR, 0xffff_fffc)],
+    &[(place::PICMR, 0xffff_fffd)],
+    &[(place::PICMR, 0xffff_fffe)],
+    // A halted core's sheet is held to it too.
+    &[(place::MODE, 0), (place::PICMR, 0)],
+    &[(place::MODE, 0), (place::PICMR, 1)],
+    &[(place::MODE, 0), (place::PICMR, 2), (place::PICSR, 3)],
 ];
 
 const KEPT: &[Change] = &[
@@ -115,6 +130,15 @@ const KEPT: &[Change] = &[
     &[(place::MODE, 0)],
     &[(place::MACHI, u32::MAX)],
     &[(place::MACLO, u32::MAX)],
+    &[(place::PICMR, 7)],
+    &[(place::PICMR, u32::MAX)],
+    &[(place::PICMR, 0x8000_0003)],
+    // PICSR may be anything, whatever PICMR lets through.
+    &[(place::PICSR, 1)],
+    &[(place::PICSR, 4)],
+    &[(place::PICSR, u32::MAX)],
+    &[(place::PICMR, u32::MAX), (place::PICSR, u32::MAX)],
+    &[(place::MODE, 0), (place::PICSR, 0x8000_0000)],
 ];
 
 #[test]
@@ -151,7 +175,7 @@ fn refusal_3_each_status_bit() {
 fn refusal_4_schedule_length() {
     for (entries, refusal) in [(0, 0), (65_536, 0), (65_537, 4), (100_000, 4)] {
         let mut case = good(1, 4_096);
-        case.schedule = vec![0; entries];
+        case.set_schedule(vec![0; entries]);
         assert_eq!(refusals(&case), (refusal, refusal), "{entries}");
     }
 }
@@ -161,7 +185,7 @@ fn refusal_5_entries() {
     for cores in 1..=4 {
         for entry in 0..=255 {
             let mut case = good(cores, 4_096);
-            case.schedule.push(entry);
+            case.set_schedule(vec![0, (cores - 1) as u8, entry]);
             let refusal = if usize::from(entry) < cores { 0 } else { 5 };
             assert_eq!(refusals(&case), (refusal, refusal), "{entry} of {cores}");
         }
@@ -169,8 +193,56 @@ fn refusal_5_entries() {
     // A halted core does not excuse the entries after it.
     let mut case = good(1, 4_096);
     case.sheets[place::MODE] = 0;
-    case.schedule = vec![0, 1];
+    case.set_schedule(vec![0, 1]);
     assert_eq!(refusals(&case), (5, 5));
+}
+
+/// A case with so many entries and so many levels.
+fn with_levels(entries: usize, levels: usize) -> Case {
+    let mut case = good(1, 4_096);
+    case.schedule = vec![0; entries];
+    case.levels = vec![0xffff_ffff; levels];
+    case
+}
+
+/// 02, note 4: "refuses with 11, after 5, a level list whose length is not the
+/// schedule's".
+#[test]
+fn refusal_11_level_lengths() {
+    for entries in [0, 1, 2, 3, 256, 65_535, 65_536] {
+        assert_eq!(refusals(&with_levels(entries, entries)), (0, 0), "{entries}");
+        let wrong =
+            [0, 1, entries / 4, entries.saturating_sub(1), entries + 1, 4 * entries, 65_536];
+        for levels in wrong.into_iter().filter(|&levels| levels != entries) {
+            assert_eq!(refusals(&with_levels(entries, levels)), (11, 11), "{entries}, {levels}");
+        }
+    }
+    // A halted core needs its levels too.
+    let mut case = with_levels(3, 2);
+    case.sheets[place::MODE] = 0;
+    assert_eq!(refusals(&case), (11, 11));
+}
+
+/// 4 and 5 come before 11, also where the lengths are equal or the entries past the
+/// levels are the wrong ones; 6 and 7 come after it.
+#[test]
+fn refusal_11_among_the_others() {
+    for levels in [0, 65_536, 65_538, 65_537] {
+        assert_eq!(refusals(&with_levels(65_537, levels)), (4, 4), "{levels}");
+    }
+    for levels in [0, 1, 2, 4, 3] {
+        let mut case = with_levels(3, levels);
+        case.schedule[2] = 1;
+        assert_eq!(refusals(&case), (5, 5), "{levels}");
+    }
+    for levels in [0, 2, 4] {
+        let mut case = with_levels(3, levels);
+        case.table.pop();
+        assert_eq!(refusals(&case), (11, 11), "{levels}");
+        let mut case = with_levels(3, levels);
+        case.table[5] = 1;
+        assert_eq!(refusals(&case), (11, 11), "{levels}");
+    }
 }
 
 #[test]
@@ -200,6 +272,7 @@ fn break_by(case: &mut Case, refusal: u8) {
         3 => case.sheets[0] = 1,
         4 => case.schedule.resize(65_537, 0),
         5 => case.schedule[0] = 4,
+        11 => case.levels.push(0),
         6 => case.table.push(0),
         _ => case.table[5] = 1,
     }
@@ -207,13 +280,15 @@ fn break_by(case: &mut Case, refusal: u8) {
 
 #[test]
 fn refusals_are_tested_in_order() {
-    for set in 1u32..128 {
+    const ORDER: [u8; 8] = [1, 2, 3, 4, 5, 11, 6, 7];
+    for set in 1u32..256 {
         let mut case = good(2, 4_096);
-        let met: Vec<u8> = (1..=7).filter(|refusal| set >> (refusal - 1) & 1 == 1).collect();
+        let met: Vec<u8> =
+            (0..8).filter(|place| set >> place & 1 == 1).map(|place| ORDER[place]).collect();
         for &refusal in &met {
             break_by(&mut case, refusal);
         }
-        let plain = if met[0] <= 5 { met[0] } else { 0 };
+        let plain = if [6, 7].contains(&met[0]) { 0 } else { met[0] };
         assert_eq!(refusals(&case), (plain, met[0]), "{met:?}");
     }
 }
@@ -224,7 +299,7 @@ fn counts_of_a_small_run() {
     let mut case = good(2, 4_096);
     case.set_word(0x10c / 4, 0x2100_0000);
     case.sheets[SHEET_WORDS + place::MODE] = 0;
-    case.schedule = vec![0, 1, 0, 1, 0, 0, 0];
+    case.set_schedule(vec![0, 1, 0, 1, 0, 0, 0]);
     case.table[0x104 / 4] = isa::decode(0x1500_0000);
     let left = check::after_fast(&BY_CACHE, &case);
     assert_eq!(left.answer, Answer { refusal: 0, executed: 5, raised: 1, reused: 1 });

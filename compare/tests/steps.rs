@@ -233,6 +233,7 @@ fn counts_of_sums() {
                 memory: vec![0; BYTES],
                 sheets: card::reset_sheets(1, 0x100),
                 schedule: vec![0],
+                levels: vec![0],
                 table: vec![0; BYTES / 4],
             };
             case.set_word(0x100 / 4, sum_word(kind, 5, y));
@@ -609,8 +610,10 @@ fn special_registers_read() {
     let core = &mut bench.cores[2];
     (core.sr, core.epcr, core.eear, core.esr) = (SR | CY, 0x44, 0x33, SR | F);
     (core.machi, core.maclo) = (0x66, 0x99);
+    (core.picmr, core.picsr) = (0x33, 0x55);
     let of_01 = [(17, SR | CY), (32, 0x44), (48, 0x33), (64, SR | F), (128, 2), (129, 3)];
-    let known = [of_01.as_slice(), &[(0x2801, 0x99), (0x2802, 0x66)]].concat();
+    let of_02 = [(0x2801, 0x99), (0x2802, 0x66), (0x4800, 0x33), (0x4802, 0x55)];
+    let known = [of_01.as_slice(), &of_02].concat();
     for number in 0..=0xffff {
         bench.cores[2].pc = 0x180;
         bench.cores[2].regs[5] = 0x77;
@@ -631,7 +634,7 @@ fn special_registers_written() {
     let kept = SR | TEE | IEE | F | CY | OV | OVE | DSX;
     let write = |number: u32, value: u32| {
         let mut bench = Bench::new(1);
-        bench.cores[0].regs[4] = value;
+        (bench.cores[0].regs[4], bench.cores[0].picsr) = (value, 0x55);
         let step = bench.run(0, asm(Kind::Mtspr, 0, 0, 4, number));
         assert_eq!((step.raised, bench.cores[0].pc), (None, 0x104));
         bench.cores[0]
@@ -644,8 +647,12 @@ fn special_registers_written() {
     assert_eq!(write(48, u32::MAX).eear, u32::MAX);
     assert_eq!(write(0x2801, u32::MAX).accumulator(), 0xffff_ffff);
     assert_eq!(write(0x2802, u32::MAX).accumulator(), 0xffff_ffff_0000_0000);
+    assert_eq!(write(0x4800, u32::MAX).picmr, u32::MAX);
+    assert_eq!(write(0x4800, 0x10).picmr, 0x13);
+    assert_eq!(write(0x4802, 0x0f).picsr, 0x05);
     let nothing = write(0, u32::MAX);
-    for number in [1, 16, 18, 33, 49, 65, 128, 129, 0x2800, 0x2803, 0xffff] {
+    let of_01 = [1, 16, 18, 33, 49, 65, 128, 129, 0xffff];
+    for number in [of_01.as_slice(), &[0x2800, 0x2803, 0x4801, 0x4803]].concat() {
         assert_eq!(write(number, u32::MAX), nothing, "{number}");
     }
 }

@@ -22,6 +22,8 @@ const COMMAND: &str = "cargo run --release --offline --features engine --bin ben
 const TURNS: usize = 40;
 const SIZES: [usize; 3] = [16, 64, 1_024];
 const CORES: [usize; 2] = [1, 4];
+/// Entries from one interrupt to the next, in the line that has any.
+const INTERRUPT_ONCE_IN: usize = 100;
 
 /// What one line times: calls that start on a case and go on with what the last
 /// left, with the cache empty at first or as full as it can be.
@@ -30,8 +32,14 @@ struct Work {
     cores: usize,
     empty: Case,
     full_cache: Vec<u64>,
-    schedules: Vec<Vec<u8>>,
+    calls: Vec<Call>,
     unit: Unit,
+}
+
+/// A schedule and the levels beside it.
+struct Call {
+    schedule: Vec<u8>,
+    levels: Vec<u32>,
 }
 
 /// What the times are divided by.
@@ -94,6 +102,7 @@ fn case(words: &[u32], bytes: usize, cores: usize) -> Case {
         memory: vec![0; bytes],
         sheets: reset_sheets(cores, 0),
         schedule: vec![],
+        levels: vec![],
         table: vec![0; bytes / 4],
     };
     for (index, &word) in words.iter().enumerate() {
@@ -107,15 +116,21 @@ fn case(words: &[u32], bytes: usize, cores: usize) -> Case {
     case
 }
 
-/// So many entries, the cores in turn.
-fn turns(cores: usize, entries: usize) -> Vec<u8> {
-    (0..entries).map(|entry| (entry % cores) as u8).collect()
+/// So many entries, the cores in turn, with line 0 high once in `rare` entries or,
+/// with 0, all lines low.
+fn turns(cores: usize, entries: usize, rare: usize) -> Call {
+    let high = |entry: usize| rare != 0 && entry % rare == rare - 1;
+    Call {
+        schedule: (0..entries).map(|entry| (entry % cores) as u8).collect(),
+        levels: (0..entries).map(|entry| u32::from(high(entry))).collect(),
+    }
 }
 
 /// One call by this engine and by the archive, which must agree; the count of
 /// instructions and what is left.
-fn agreed(case: &Case, schedule: &[u8]) -> (usize, Case) {
-    let case = Case { schedule: schedule.to_vec(), ..case.clone() };
+fn agreed(case: &Case, call: &Call) -> (usize, Case) {
+    let (schedule, levels) = (call.schedule.clone(), call.levels.clone());
+    let case = Case { schedule, levels, ..case.clone() };
     let left = check::after_fast(&BY_CACHE, &case);
     assert_eq!(check::after_fast(&Archive, &case), left);
     assert_eq!(check::after_plain(&Archive, &case), check::after_plain(&BY_CACHE, &case));
@@ -126,15 +141,15 @@ fn agreed(case: &Case, schedule: &[u8]) -> (usize, Case) {
 /// touch code, so that the cache it leaves fits the memory before it too.
 fn endless(name: &str, words: &[u32], kib: usize, cores: usize) -> Work {
     let empty = case(words, kib * 1_024, cores);
-    let schedule = turns(cores, SCHEDULE_MOST);
-    let (executed, left) = agreed(&empty, &schedule);
+    let call = turns(cores, SCHEDULE_MOST, 0);
+    let (executed, left) = agreed(&empty, &call);
     assert_eq!(executed, SCHEDULE_MOST, "{name}");
     Work {
         name: name.to_string(),
         cores,
         empty,
         full_cache: left.table,
-        schedules: vec![schedule],
+        calls: vec![call],
         unit: Unit::Entries(executed),
     }
 }
@@ -143,42 +158,47 @@ fn is_running(case: &Case) -> bool {
     case.sheets.chunks(SHEET_WORDS).any(|sheet| sheet[place::MODE] != 0)
 }
 
-/// The shortest schedule of turns after which every core has halted, which the
+/// The shortest call in turns after which every core has halted, which the
 /// longest one does.
-fn up_to_the_end(case: &Case) -> Vec<u8> {
+fn up_to_the_end(case: &Case, rare: usize) -> Call {
     let (mut low, mut high) = (0, SCHEDULE_MOST);
     while low < high {
         let middle = (low + high) / 2;
-        if is_running(&agreed(case, &turns(case.cores(), middle)).1) {
+        if is_running(&agreed(case, &turns(case.cores(), middle, rare)).1) {
             low = middle + 1;
         } else {
             high = middle;
         }
     }
-    turns(case.cores(), high)
+    turns(case.cores(), high, rare)
 }
 
 /// A compiled program from its start to its end, by as many calls as it takes.
 fn compiled(name: &str, cores: usize) -> Work {
     let empty = Image::load(&image::folder(), name).case(image::BYTES, cores);
-    let (mut now, mut schedules, mut instructions) = (empty.clone(), vec![], 0);
+    to_the_end(format!("{name}.c"), empty, 0)
+}
+
+/// The same with an interrupt once in `rare` entries, which a handler of two
+/// instructions serves.
+fn interrupted(name: &str, rare: usize) -> Work {
+    let image = Image::load(&image::folder(), name).with_handler();
+    to_the_end(format!("{name}.c, interrupted"), image.interruptible(image::BYTES, 1), rare)
+}
+
+fn to_the_end(name: String, empty: Case, rare: usize) -> Work {
+    let cores = empty.cores();
+    let (mut now, mut calls, mut instructions) = (empty.clone(), vec![], 0);
     while is_running(&now) {
-        let mut schedule = turns(cores, SCHEDULE_MOST);
-        if !is_running(&agreed(&now, &schedule).1) {
-            schedule = up_to_the_end(&now);
+        let mut call = turns(cores, SCHEDULE_MOST, rare);
+        if !is_running(&agreed(&now, &call).1) {
+            call = up_to_the_end(&now, rare);
         }
-        let (executed, left) = agreed(&now, &schedule);
+        let (executed, left) = agreed(&now, &call);
         (now, instructions) = (left, instructions + executed);
-        schedules.push(schedule);
+        calls.push(call);
     }
-    Work {
-        name: format!("{name}.c"),
-        cores,
-        empty,
-        full_cache: now.table,
-        schedules,
-        unit: Unit::Entries(instructions),
-    }
+    Work { name, cores, empty, full_cache: now.table, calls, unit: Unit::Entries(instructions) }
 }
 
 /// One instruction over and over in 16 KiB, one core, with a jump at the end.
@@ -197,7 +217,7 @@ fn halted() -> Work {
         cores: 1,
         full_cache: all_decoded(&empty),
         empty,
-        schedules: vec![turns(1, SCHEDULE_MOST)],
+        calls: vec![turns(1, SCHEDULE_MOST, 0)],
         unit: Unit::Entries(SCHEDULE_MOST),
     }
 }
@@ -215,7 +235,7 @@ fn checks(kib: usize, cores: usize) -> Work {
         full_cache: all_decoded(&empty),
         unit: Unit::MemoryWords(empty.table.len()),
         empty,
-        schedules: vec![vec![]],
+        calls: vec![turns(cores, 0, 0)],
     }
 }
 
@@ -229,6 +249,7 @@ fn all_work() -> Vec<Work> {
     }
     work.extend(["sieve", "crc32", "sort"].map(|name| compiled(name, 1)));
     work.extend(CORES.map(|cores| compiled("cores", cores)));
+    work.push(interrupted("sieve", INTERRUPT_ONCE_IN));
     work.extend([
         single("l.nop only", word(Kind::Nop, 0, 0, 0, 0)),
         single("l.addi only", word(Kind::Addi, 5, 5, 0, 1)),
@@ -275,10 +296,10 @@ fn time(work: &Work, engine: &dyn Engine, run: Run) -> Duration {
     }
     let Case { memory, sheets, table, .. } = &mut case;
     let start = Instant::now();
-    for schedule in &work.schedules {
+    for Call { schedule, levels } in &work.calls {
         let answer = match run {
-            Run::Plain => engine.plain_run(memory, sheets, schedule),
-            Run::Fast { .. } => engine.fast_run(memory, sheets, schedule, table),
+            Run::Plain => engine.plain_run(memory, sheets, schedule, levels),
+            Run::Fast { .. } => engine.fast_run(memory, sheets, schedule, levels, table),
         };
         assert_eq!(answer >> 60, 0, "refused");
     }

@@ -1,7 +1,8 @@
-//! Makes fast calls of the greatest length, one core, on a compiled program and
-//! prints how many instructions they executed: `calls sieve 2`. `count` runs it
-//! under valgrind.
+//! Makes fast calls of the greatest length, one core, all lines low, on a compiled
+//! program and prints how many instructions they executed: `calls sieve 2`.
+//! `count` runs it under valgrind.
 
+use compare::cases::Case;
 use compare::check::Engine;
 use compare::engine::Archive;
 use compare::image::{self, Image};
@@ -12,11 +13,11 @@ fn main() {
     let name = args().nth(1).expect("a program's name");
     let calls: usize = args().nth(2).and_then(|text| text.parse().ok()).expect("how many calls");
     let mut case = Image::load(&image::folder(), &name).case(image::BYTES, 1);
-    let schedule = vec![0; SCHEDULE_MOST];
+    case.set_schedule(vec![0; SCHEDULE_MOST]);
     let mut executed = 0;
     for _ in 0..calls {
-        let answer =
-            Archive.fast_run(&mut case.memory, &mut case.sheets, &schedule, &mut case.table);
+        let Case { memory, sheets, schedule, levels, table } = &mut case;
+        let answer = Archive.fast_run(memory, sheets, schedule, levels, table);
         assert_eq!(answer >> 60, 0, "refused");
         executed += answer & 0xfffff;
     }

@@ -3,11 +3,13 @@
 #![allow(dead_code)]
 
 pub mod fields;
+pub mod interrupts;
 pub mod list;
 pub mod products;
 pub mod registration;
 pub mod sums;
 pub mod watch;
+pub mod wrong_interrupt;
 pub mod wrong_step;
 
 use compare::check::{Engine, BY_CACHE, BY_HISTORY};

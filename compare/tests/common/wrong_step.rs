@@ -8,7 +8,8 @@ use compare::isa::{self, Insn, Kind};
 use compare::runs::{self, Answer};
 use compare::state::{Core, CY, OV, SHEET_WORDS};
 
-/// One step as this engine takes it, for another to spoil.
+/// One step as this engine takes it, for another to spoil. Before it, its entry's
+/// lines are latched.
 pub struct Taken {
     pub insn: Insn,
     pub before: Core,
@@ -71,6 +72,16 @@ impl Taken {
     }
 }
 
+pub fn read_sheets(sheets: &[u32]) -> Vec<Core> {
+    sheets.chunks(SHEET_WORDS).map(Core::from_sheet).collect()
+}
+
+pub fn write_sheets(cores: &[Core], sheets: &mut [u32]) {
+    for (core, sheet) in cores.iter().zip(sheets.chunks_mut(SHEET_WORDS)) {
+        core.to_sheet(sheet);
+    }
+}
+
 /// An engine that is wrong in steps of some kinds alone; it is asked accepted
 /// cases.
 pub struct WrongStep {
@@ -85,14 +96,18 @@ pub const fn wrong(name: &'static str, of: &'static [Kind], spoil: fn(&mut Taken
 }
 
 impl WrongStep {
-    /// One entry: whether it raised and whether it counts as reused.
+    /// One entry: whether it raised and whether it counts as reused. Interrupts
+    /// are right.
     fn step(
         &self,
         memory: &mut [u8],
         cores: &mut [Core],
-        who: usize,
+        (who, lines): (usize, u32),
         table: Option<&mut [u64]>,
     ) -> (bool, bool) {
+        if exec::interrupt(&mut cores[who], lines).is_some() {
+            return (true, false);
+        }
         let before = cores[who];
         let word = exec::fetch(memory, before.pc);
         let (step, reused) = match table {
@@ -117,21 +132,22 @@ impl WrongStep {
         memory: &mut [u8],
         sheets: &mut [u32],
         schedule: &[u8],
+        levels: &[u32],
         mut table: Option<&mut [u64]>,
     ) -> u64 {
         let mut answer = Answer::default();
-        let mut cores: Vec<Core> = sheets.chunks(SHEET_WORDS).map(Core::from_sheet).collect();
-        for who in schedule.iter().map(|&entry| usize::from(entry)) {
+        let mut cores = read_sheets(sheets);
+        for (&entry, &lines) in schedule.iter().zip(levels) {
+            let who = usize::from(entry);
             if cores[who].running {
-                let (raised, reused) = self.step(memory, &mut cores, who, table.as_deref_mut());
+                let place = (who, lines);
+                let (raised, reused) = self.step(memory, &mut cores, place, table.as_deref_mut());
                 answer.executed += 1;
                 answer.raised += u32::from(raised);
                 answer.reused += u32::from(reused);
             }
         }
-        for (core, sheet) in cores.iter().zip(sheets.chunks_mut(SHEET_WORDS)) {
-            core.to_sheet(sheet);
-        }
+        write_sheets(&cores, sheets);
         answer.pack()
     }
 }
@@ -149,17 +165,24 @@ impl Codec for WrongStep {
 }
 
 impl Engine for WrongStep {
-    fn plain_run(&self, memory: &mut [u8], sheets: &mut [u32], schedule: &[u8]) -> u64 {
-        self.run(memory, sheets, schedule, None)
+    fn plain_run(
+        &self,
+        memory: &mut [u8],
+        sheets: &mut [u32],
+        schedule: &[u8],
+        levels: &[u32],
+    ) -> u64 {
+        self.run(memory, sheets, schedule, levels, None)
     }
     fn fast_run(
         &self,
         memory: &mut [u8],
         sheets: &mut [u32],
         schedule: &[u8],
+        levels: &[u32],
         table: &mut [u64],
     ) -> u64 {
-        self.run(memory, sheets, schedule, Some(table))
+        self.run(memory, sheets, schedule, levels, Some(table))
     }
 }
 

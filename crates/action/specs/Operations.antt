@@ -3,6 +3,7 @@ use mathlib.Core.Bool.{Bool, _&&_}
 use mathlib.Core.List.{List}
 use mathlib.Core.Option.{Option, none, some}
 use Prim.Native.Nat.{ℕ, _*_, _%_}
+use lib.Bits.{bitAnd, bitOr}
 use lib.Dec.{eqb, ltb}
 use lib.ListN.{length}
 use Rattle.bits.specs.Choice.{if_then_else_}
@@ -15,7 +16,7 @@ use Rattle.arith.specs.Sums.{addressSum}
 use Rattle.arith.specs.declared.Flagged.{Flagged}
 use Rattle.memory.specs.Memory.{loaded, access}
 use Rattle.product.specs.declared.Accumulator.{Accumulator}
-use Rattle.effect.specs.State.{epcrAt, eearAt, esrAt, machiAt, macloAt}
+use Rattle.effect.specs.State.{epcrAt, eearAt, esrAt, machiAt, macloAt, picmrAt, picsrAt}
 use Rattle.effect.specs.Effect.{noStore, inSlot, advances, halting, faults, raisesRange, jumping, returning, linking, saving, unlinking, accumulating, readingAccumulator}
 use Rattle.effect.specs.declared.types.Inputs.{Inputs}
 use Rattle.effect.specs.declared.types.Store.{Store}
@@ -156,7 +157,7 @@ touch x len = reaches x 1 len (nothing x)
 -- ---- special-purpose registers
 
 -- "17 SR, 32 EPCR, 48 EEAR, 64 ESR; 128 core number and 129 core count are read-only. Others read 0; writes are ignored." Document 02, note 2, of MACHI
--- and MACLO: "their SPRs are 2802 and 2801 hexadecimal."
+-- and MACLO: "their SPRs are 2802 and 2801 hexadecimal." Note 4: "PICMR is SPR 4800 hexadecimal, .. PICSR is 4802"
 unfoldable pub specialRegister : Board → Inputs → ℕ → ℕ
 specialRegister board x n =
     if eqb n 17 then x .sr else
@@ -167,9 +168,12 @@ specialRegister board x n =
     if eqb n 129 then board .cores else
     if eqb n 0x2801 then x .accumulator .low else
     if eqb n 0x2802 then x .accumulator .high else
+    if eqb n 0x4800 then x .picmr else
+    if eqb n 0x4802 then x .picsr else
     0
 
--- "Bits that SR or ESR may not have, and EPCR's low two, are dropped; bit 15 stays 1."
+-- "Bits that SR or ESR may not have, and EPCR's low two, are dropped; bit 15 stays 1." Document 02, note 4, of PICMR: "its bits 0 and 1 always 1"; of PICSR:
+-- "a write to it keeps the bits set in it and in the value."
 unfoldable pub setsSpecialRegister : Inputs → ℕ → ℕ → Effect
 setsSpecialRegister x n v =
     if eqb n 17 then advances x 0 0 (allowed v) else
@@ -178,4 +182,6 @@ setsSpecialRegister x n v =
     if eqb n 64 then advances x esrAt (allowed v) (x .sr) else
     if eqb n 0x2801 then advances x macloAt v (x .sr) else
     if eqb n 0x2802 then advances x machiAt v (x .sr) else
+    if eqb n 0x4800 then advances x picmrAt (bitOr v 3) (x .sr) else
+    if eqb n 0x4802 then advances x picsrAt (bitAnd (x .picsr) v) (x .sr) else
     nothing x

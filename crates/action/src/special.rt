@@ -20,6 +20,8 @@ pub fn read(board: Board, x: Inputs, n: u32) -> u32
         129 => board.cores,
         0x2801 => x.accumulator.low,
         0x2802 => x.accumulator.high,
+        0x4800 => x.picmr,
+        0x4802 => x.picsr,
         _ => 0,
     }
 }
@@ -34,6 +36,8 @@ pub fn write(x: Inputs, n: u32, v: u32) -> Written
         64 => completed::written(state::ESR as u32, arith::keep_allowed(v), x.sr),
         0x2801 => completed::written(state::MACLO as u32, v, x.sr),
         0x2802 => completed::written(state::MACHI as u32, v, x.sr),
+        0x4800 => completed::written(state::PICMR as u32, v | 3, x.sr),
+        0x4802 => completed::written(state::PICSR as u32, x.picsr & v, x.sr),
         _ => completed::nothing(x),
     }
 }

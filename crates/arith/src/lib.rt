@@ -5,7 +5,7 @@ ghost use lib.Bits.{bitAnd, bitOr, bitXor};
 ghost use Rattle.bits.specs.Choice.{if_then_else_};
 ghost use Rattle.bits.specs.Word.{bit, bitAt};
 ghost use Rattle.arith.specs.Bit.{isSet, setBit};
-ghost use Rattle.arith.specs.Status.{F, CY, OVE, allowed, aligned, setCarryOverflow, exceptionSR};
+ghost use Rattle.arith.specs.Status.{IEE, F, CY, OVE, allowed, aligned, setCarryOverflow, exceptionSR};
 ghost use Rattle.arith.specs.Sums.{sum, difference, addressSum, addressDifference};
 ghost use Rattle.arith.specs.Compare.{holds};
 ghost use Rattle.arith.specs.Shift.{shiftLeft, shiftRight, shiftRightSigned, rotateRight, highHalf};
@@ -91,6 +91,13 @@ pub fn overflow_enabled(sr: u32) -> bool
     ensures { λ r. ⌜ r ≡ isSet OVE sr ⌝ }
 {
     bit_at(sr, OVE) == 1
+}
+
+// IEE: interrupts are taken.
+pub fn interrupts_enabled(sr: u32) -> bool
+    ensures { λ r. ⌜ r ≡ isSet IEE sr ⌝ }
+{
+    bit_at(sr, IEE) == 1
 }
 
 // What a write of x to SR or ESR leaves: bits 0 to 2 and 9 to 13 of x, and bit 15.

@@ -21,6 +21,10 @@ pub and-both : (a b : Bool) → T a → T b → T (a && b)
 and-both true b t u = u
 and-both false b t u = t
 
+pub of-T : (b : Bool) → T b → b ≡ true
+of-T true t = refl
+of-T false t = absurd t
+
 pub T-of : (b : Bool) → b ≡ true → T b
 T-of true e = tt
 T-of false e = absurd (let z : _≡_ {A = ℕ} 0 1 = cc in omega arith)

@@ -13,7 +13,7 @@ use Rattle.bits.proofs.Lists.{set-append-add}
 use Rattle.bits.specs.Choice.{if_then_else_}
 use Rattle.isa.specs.Register.{Registers}
 use Rattle.isa.specs.declared.entry.Fields.{Fields}
-use Rattle.effect.specs.State.{stateWords, pcAt, delayAt, targetAt, srAt, epcrAt, eearAt, esrAt, linkAt, linkAddressAt, modeAt, machiAt, macloAt}
+use Rattle.effect.specs.State.{stateWords, pcAt, delayAt, targetAt, srAt, epcrAt, eearAt, esrAt, linkAt, linkAddressAt, modeAt, machiAt, macloAt, picmrAt, picsrAt}
 use Rattle.effect.specs.declared.types.Effect.{Effect}
 use Rattle.effect.specs.declared.types.Accumulated.{Accumulated}
 use Rattle.effect.specs.declared.types.Accumulated.the-variants.{Kept, Became}
@@ -53,6 +53,8 @@ module _ (s : List ℕ) (core : ℕ) (h : core * stateWords + stateWords ≤ len
         part-word linkAddressAt (omega arith),
         part-word machiAt (omega arith),
         part-word macloAt (omega arith),
+        part-word picmrAt (omega arith),
+        part-word picsrAt (omega arith),
       )
 
   -- t stands in s′ as the core's words, and the rest of s′ is that of s

@@ -1,5 +1,5 @@
 -- What an instruction reads of its core's state, and what its effect leaves in memory and in every state: document 01, "What is lent" and "One
--- instruction"; document 02, note 2. The states are one list, stateWords for each core.
+-- instruction"; document 02, notes 2 and 4. The states are one list, stateWords for each core.
 use mathlib.Core.Bool.{Bool, _&&_}
 use mathlib.Core.List.{List}
 use Prim.Native.Nat.{ℕ, zero, suc, _+_, _*_, _/_}
@@ -10,7 +10,7 @@ use Rattle.isa.specs.declared.entry.Fields.{Fields}
 use Rattle.isa.specs.Vectors.{vector}
 use Rattle.isa.specs.declared.vectors.Cause.the-variants.{Bus}
 use Rattle.memory.specs.Memory.{stored}
-use Rattle.effect.specs.State.{stateWords, pcAt, delayAt, targetAt, srAt, epcrAt, eearAt, esrAt, linkAt, linkAddressAt, modeAt, machiAt, macloAt}
+use Rattle.effect.specs.State.{stateWords, pcAt, delayAt, targetAt, srAt, epcrAt, eearAt, esrAt, linkAt, linkAddressAt, modeAt, machiAt, macloAt, picmrAt, picsrAt}
 use Rattle.effect.specs.Effect.{faults}
 use Rattle.effect.specs.declared.types.Inputs.{Inputs}
 use Rattle.effect.specs.declared.types.Effect.{Effect}
@@ -44,6 +44,8 @@ reads core word f = record {
   esr = word esrAt;
   link = record { held = word linkAt; address = word linkAddressAt };
   accumulator = record { high = word machiAt; low = word macloAt };
+  picmr = word picmrAt;
+  picsr = word picsrAt;
 }
 
 unfoldable pub inputs : List ℕ → ℕ → Fields → Inputs
@@ -105,9 +107,10 @@ statesAfter s core e =
 unfoldable pub memoryAfter : List ℕ → Effect → List ℕ
 memoryAfter mem e = stored (e .store .width) mem (e .store .address) (e .store .value)
 
--- "A fetch outside memory is a bus error"; it has no fields
+-- an exception in place of an instruction has no fields
 abbrev pub noFields : Fields
 noFields = record { d = 0; a = 0; b = 0; immediate = 0 }
 
+-- "A fetch outside memory is a bus error"
 abbrev pub fetchFault : List ℕ → ℕ → Effect
 fetchFault s core = faults (inputs s core noFields) Bus (wordAt s core pcAt)

@@ -51,6 +51,8 @@ fn inputs_of(own: &[u32], core: usize, f: Fields) -> Inputs
             high: own[state::MACHI],
             low: own[state::MACLO],
         },
+        picmr: own[state::PICMR],
+        picsr: own[state::PICSR],
     }
 }
 

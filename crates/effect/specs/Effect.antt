@@ -1,4 +1,4 @@
--- What an instruction may do: document 01, "One instruction" and its vectors; document 02, note 2. What each operation does of it stands in action/specs/Operations.
+-- What an instruction may do: document 01, "One instruction" and its vectors; document 02, notes 2 and 4. What each operation does of it stands in action/specs/Operations.
 -- An instruction reads x : Inputs (its fields, its registers' values and its core's state before it) and has an Effect.
 use mathlib.Core.Bool.{Bool}
 use Prim.Native.Nat.{ℕ}
@@ -6,7 +6,7 @@ use lib.Dec.{eqb}
 use Rattle.bits.specs.Choice.{if_then_else_}
 use Rattle.bits.specs.Word.{bit}
 use Rattle.isa.specs.declared.vectors.Cause.{Cause}
-use Rattle.isa.specs.declared.vectors.Cause.the-variants.{Bus, Alignment, Illegal, Range, Syscall, Trap}
+use Rattle.isa.specs.declared.vectors.Cause.the-variants.{Bus, Alignment, Illegal, Range, Syscall, Trap, Interrupt}
 use Rattle.arith.specs.Bit.{setBit}
 use Rattle.arith.specs.Status.{F, exceptionSR}
 use Rattle.arith.specs.Sums.{addressSum, addressDifference}
@@ -110,7 +110,7 @@ readingAccumulator x = accumulating x (x .d) (x .accumulator .low) cleared
 unfoldable pub restart : Inputs → ℕ
 restart x = if inSlot x then addressDifference (x .flow .pc) 4 else x .flow .pc
 
--- "syscall gives PC + 4"
+-- "syscall gives PC + 4"; document 02, note 4, of an interrupt: "with EPCR = PC"
 abbrev pub exceptionPC : Inputs → Cause → ℕ
 exceptionPC x Bus = restart x
 exceptionPC x Alignment = restart x
@@ -118,6 +118,7 @@ exceptionPC x Illegal = restart x
 exceptionPC x Range = restart x
 exceptionPC x Syscall = addressSum (x .flow .pc) 4
 exceptionPC x Trap = restart x
+exceptionPC x Interrupt = x .flow .pc
 
 -- An exception, once v went to place and SR became sr. "ESR takes SR; then SM = 1, TEE, IEE, OVE = 0, DSX = slot." "Delay, target and link are
 -- cleared." Its cause has the vector, to which PC goes when the exception is committed (putException).

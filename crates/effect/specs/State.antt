@@ -1,4 +1,4 @@
--- A core's state, document 01's sheet: "What is lent".
+-- A core's state, document 01's sheet: "What is lent"; document 02, notes 2 and 4.
 use mathlib.Core.Bool.{Bool, true, _&&_, _||_, not}
 use mathlib.Core.List.{List, [], _∷_}
 use Prim.Native.Nat.{ℕ, _%_}
@@ -8,9 +8,9 @@ use Rattle.effect.specs.declared.types.Board.{Board}
 
 -- "32-bit words for each of 1 to 4 cores. 0–31: r0–r31. 32: PC, the next instruction's address. 33: delay, 1 if that instruction is in a
 -- delay slot, else 0. 34: target after the slot. 35: SR. 36: EPCR. 37: EEAR. 38: ESR. 39: link, 0 or 1. 40: link address. 41: mode, 0 halted
--- or 3 running." Document 02, note 2: "Sheets grow to 44 words, MACHI then MACLO last".
+-- or 3 running." Document 02, note 2: "MACHI then MACLO"; note 4: "Each sheet ends with PICMR then PICSR, 46 words in all".
 abbrev pub stateWords : ℕ
-stateWords = 44
+stateWords = 46
 
 abbrev pub pcAt : ℕ
 pcAt = 32
@@ -48,6 +48,12 @@ machiAt = 42
 abbrev pub macloAt : ℕ
 macloAt = 43
 
+abbrev pub picmrAt : ℕ
+picmrAt = 44
+
+abbrev pub picsrAt : ℕ
+picsrAt = 45
+
 abbrev pub halted : ℕ
 halted = 0
 
@@ -64,8 +70,8 @@ all (b ∷ l) = b && all l
 abbrev pub multiple : ℕ → Bool
 multiple x = eqb (x % 4) 0
 
--- the rules on the state of a core of a board, g being its word at each place, in the paper's order (the same for every core of every board); MACHI
--- and MACLO are free
+-- the rules on the state of a core of a board, g being its word at each place, in the paper's order (the same for every core of every board); MACHI,
+-- MACLO and PICSR are free
 abbrev pub rules : Board → ℕ → (ℕ → ℕ) → List Bool
 rules board core g =
     leb (g delayAt) 1 ∷  -- "33: delay, 1 if that instruction is in a delay slot, else 0."
@@ -80,4 +86,5 @@ rules board core g =
     (not (eqb (g linkAt) 0) || eqb (g linkAddressAt) 0) ∷  -- link address 0 if link is 0.
     eqb (allowed (g srAt)) (g srAt) ∷  -- SR
     eqb (allowed (g esrAt)) (g esrAt) ∷  -- and ESR may have bits SM 0, .. DSX 13; bit 15 is 1, all others 0."
+    eqb (g picmrAt % 4) 3 ∷  -- document 02, note 4: "a PICMR without its low two bits meets 3"
     []

@@ -219,6 +219,7 @@ fn exception_pc(x: Inputs, cause: Cause) -> u32
 {
     match cause {
         Cause::Syscall => arith::address_add(x.flow.pc, 4),
+        Cause::Interrupt => x.flow.pc,
         _ => restart(x),
     }
 }

@@ -1,5 +1,5 @@
 // A core's state (document 01's sheet): 32 registers, then these places.
-pub const STATE_WORDS: usize = 44;
+pub const STATE_WORDS: usize = 46;
 
 pub const PC: usize = 32;
 
@@ -24,6 +24,10 @@ pub const MODE: usize = 41;
 pub const MACHI: usize = 42;
 
 pub const MACLO: usize = 43;
+
+pub const PICMR: usize = 44;
+
+pub const PICSR: usize = 45;
 
 // The modes.
 pub const HALTED: u32 = 0;

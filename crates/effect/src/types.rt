@@ -60,6 +60,8 @@ pub struct Inputs {
     pub esr: u32,
     pub link: Link,
     pub accumulator: Accumulator,
+    pub picmr: u32,
+    pub picsr: u32,
 }
 
 // What an instruction does: the one word of its state that it writes besides SR, the flow, the link, the mode and the accumulator; its store; how it

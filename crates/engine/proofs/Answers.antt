@@ -17,11 +17,11 @@ use Rattle.decode_cache.specs.Inner.{Backed}
 use Rattle.lawful.specs.Accepted.{accepted, AllAccepted}
 use Rattle.lawful.proofs.Accepted.{accepted-means, means-accepted}
 use Rattle.refusal.specs.Lent.{Lent, Left, left, boardOf}
-use Rattle.refusal.specs.Refusal.{maxSchedule, statesObey, scheduleFits, namesCores, cacheFits, entryRight, entriesRight, everyFrom, plainRefusal, fastRefusal, refusalNumber}
+use Rattle.refusal.specs.Refusal.{maxSchedule, statesObey, scheduleFits, namesCores, levelsFit, cacheFits, entryRight, entriesRight, everyFrom, plainRefusal, fastRefusal, refusalNumber}
 use Rattle.refusal.specs.declared.cause.Refusal.{Refusal}
 use Rattle.refusal.proofs.Tests.{below-at, of-below, from-at, of-from}
 use Rattle.refusal.proofs.Passes.{Passes, CachePasses, plain-passes, fast-then-plain, cache-passes, none-refused, cause-number, cores-fit}
-use Rattle.steps.specs.Plain.{Plain, plainRun, start}
+use Rattle.steps.specs.Plain.{Plain, scheduledBy, plainRun, start}
 use Rattle.steps.specs.Fast.{Fast}
 use Rattle.steps.specs.History.{History, history, entriesFrom}
 use Rattle.steps.specs.Counts.{AtMost, noCounts}
@@ -43,11 +43,12 @@ unfolding statesObey
 accepted-obeys board s a = of-below (accepted board s) (coreCount s) (λ core h. means-accepted board s core (a core h))
 
 passes-runnable : (l : Lent) (cache : List ℕ) → Passes l → Backed cache (l .memory) → Right (boardOf l) cache (l .memory) → Runnable l cache
-unfolding scheduleFits namesCores
+unfolding scheduleFits namesCores levelsFit
 passes-runnable l cache p b r = record {
   few-cores = cores-fit (length (l .states)) (p .states-fit) .1;
   few-entries = leb→le (length (l .schedule)) maxSchedule (p .schedule-fits);
   names-cores = λ i h. ltb→lt _ _ (from-at (λ i core. ltb core (coreCount (l .states))) (l .schedule) 0 (p .names-cores) i h);
+  levels-fit = eqb→eq (length (l .levels)) (length (l .schedule)) (p .levels-fit);
   accepted = obeys-accepted (boardOf l) (l .states) (p .states-obey);
   backed = b;
   right = r;
@@ -98,7 +99,7 @@ module _ (l : Lent) (cache : List ℕ) (z : fastRefusal l cache ≡ 0) where
   -- what is left is not refused
   left-accepted : (x : Left) (cache′ : List ℕ) → length (x .memory) ≡ length (l .memory) → length (x .states) ≡ length (l .states)
       → length cache′ ≡ length cache → AllAccepted (boardOf l) (x .states) → Right (boardOf l) cache′ (x .memory) → fastRefusal (again l x) cache′ ≡ 0
-  unfolding passes scheduleFits namesCores everyFrom
+  unfolding passes scheduleFits namesCores levelsFit everyFrom
   left-accepted x cache′ p q r a f =
       let n : length cache′ ≡ length (x .memory) / 4 = r ∙ cache-length l cache (cache-passes l cache z) ∙ ap (λ (n : ℕ). n / 4) (sym p) in
       let b : boardOf (again l x) ≡ boardOf l = ap (λ (n : ℕ). record { cores = n / stateWords }) q in
@@ -109,6 +110,7 @@ module _ (l : Lent) (cache : List ℕ) (z : fastRefusal l cache ≡ 0) where
         states-obey = accepted-obeys (boardOf (again l x)) (x .states) (subst (λ (board : Board). AllAccepted board (x .states)) (sym b) a);
         schedule-fits = tt;
         names-cores = tt;
+        levels-fit = tt;
       })
       (right-passes (again l x) cache′ n (subst (λ (board : Board). Right board cache′ (x .memory)) (sym b) f))
 
@@ -122,7 +124,7 @@ module _ (l : Lent) where
   pub plain-ran : (mem′ s′ cache′ : List ℕ) (n : Counts) → plainRefusal l ≡ 0 → Finished l [] mem′ s′ cache′ n → PlainAnswer l (left mem′ s′) (Ran n)
   unfolding plainRun
   plain-ran mem′ s′ cache′ n z e =
-      let f = e .left ∙ from-uncached (boardOf l) (l .schedule) (start l) 0 in
+      let f = e .left ∙ from-uncached (boardOf l) (scheduledBy l) (start l) 0 in
       record {
         refusal = sym z;
         left = rw (eq-eqb _ _ z) (ap (λ (x : Fast). x .plain) f);
@@ -161,8 +163,8 @@ module _ (l : Lent) where
         let runs = fast-runnable l cache z in
         let f : Agrees board (fastOf mem′ s′ cache′ n) (plainRun l) (history l cache) =
         subst (λ (x : Fast). Agrees board x (plainRun l) (history l cache)) (sym (e .left))
-        (from-agrees board (l .schedule) (fastOf (l .memory) (l .states) cache noCounts) (runs .right)) in
-        let t : AllAccepted board (plainRun l .states) = from-accepted board (l .schedule) (start l) (runs .names-cores) (runs .accepted) in
+        (from-agrees board (scheduledBy l) (fastOf (l .memory) (l .states) cache noCounts) (runs .right)) in
+        let t : AllAccepted board (plainRun l .states) = from-accepted board (l .schedule) (l .levels) (start l) (runs .names-cores) (runs .accepted) in
         let c : cache′ ≡ entriesFrom board 0 (plainRun l .memory) (history l cache .cached) =
         cache-is board mem′ cache′ (f .right-again)
         ∙ ap₂ (λ (x : Plain) (h : History). entriesFrom board 0 (x .memory) (h .cached)) (f .same-plain) (f .same-history) in

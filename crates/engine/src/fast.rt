@@ -5,12 +5,18 @@ use crate::answer::Answer;
 use refusal::cause::Verdict;
 
 // The fast run: answers its counts, or the first rule that is broken, and then nothing lent is written.
-pub fn fast_run(memory: &mut [u8], states: &mut [u32], schedule: &[u8], cache: &mut [u64]) -> Answer
-    ensures { λ r. ⌜ FastAnswer (lent (now (memory .entry)) (now (states .entry)) (now (schedule .entry))) (now (cache .entry)) (left (now (memory .exit)) (now (states .exit))) (now (cache .exit)) r ⌝ }
+pub fn fast_run(
+    memory: &mut [u8],
+    states: &mut [u32],
+    schedule: &[u8],
+    levels: &[u32],
+    cache: &mut [u64],
+) -> Answer
+    ensures { λ r. ⌜ FastAnswer (lent (now (memory .entry)) (now (states .entry)) (now (schedule .entry)) (now (levels .entry))) (now (cache .entry)) (left (now (memory .exit)) (now (states .exit))) (now (cache .exit)) r ⌝ }
 {
-    let verdict = refusal::check_fast(memory, states, schedule, cache);
+    let verdict = refusal::check_fast(memory, states, schedule, levels, cache);
     match verdict {
-        Verdict::Accepted => Answer::Ran(steps::run(memory, states, schedule, cache)),
+        Verdict::Accepted => Answer::Ran(steps::run(memory, states, schedule, levels, cache)),
         Verdict::Refused(cause) => Answer::Refused(cause),
     }
 }

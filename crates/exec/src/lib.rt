@@ -1,10 +1,10 @@
-// An instruction on what is lent: its inputs are read, and what it does is committed.
+// An instruction on what is lent, or an exception in its place: its inputs are read, and what it does is committed.
 ghost use mathlib.Core.List.{List};
 ghost use Prim.Native.Nat.{ℕ, _+_, _*_, _≤_, _<_};
 ghost use lib.ListN.{length};
 ghost use Rattle.effect.specs.State.{stateWords};
-ghost use Rattle.effect.specs.Effect.{noStore};
-ghost use Rattle.commit.specs.Commit.{fetchFault};
+ghost use Rattle.effect.specs.Effect.{noStore, faults};
+ghost use Rattle.commit.specs.Commit.{inputs, noFields, fetchFault};
 ghost use Rattle.commit.specs.Inner.{tells};
 ghost use Rattle.semantics.specs.Meaning.{effectOf};
 ghost use Rattle.exec.specs.Inner.{Executed};
@@ -34,18 +34,27 @@ pub fn execute(board: Board, memory: &mut [u8], states: &mut [u32], core: usize,
     done
 }
 
-// A fetch outside memory raises bus error, and leaves memory; answers how the step ends.
+// An exception in place of an instruction: it leaves memory, and answers how the step ends.
+pub fn raise(states: &mut [u32], core: usize, fault: Faulted) -> Outcome
+    requires { ⌜ core * stateWords + stateWords ≤ length (now states) ⌝ }
+    requires { ⌜ core < 4 ⌝ }
+    ensures { λ r. ⌜ ((mem : List ℕ) → Executed mem (now (states .entry)) core (faults (inputs (now (states .entry)) core noFields) (fault .cause) (fault .eear)) mem (now (states .exit)) (tells r noStore)) ⌝ }
+{
+    let x = commit::inputs::state_at(states, core);
+    let base = core * state::STATE_WORDS;
+    let end = base + state::STATE_WORDS;
+    commit::own_state::commit_state(&mut states[base..end], effects::fault_effect(x, fault))
+}
+
+// A fetch outside memory raises bus error.
 pub fn fetch_fault(states: &mut [u32], core: usize) -> Outcome
     requires { ⌜ core * stateWords + stateWords ≤ length (now states) ⌝ }
     requires { ⌜ core < 4 ⌝ }
     ensures { λ r. ⌜ ((mem : List ℕ) → Executed mem (now (states .entry)) core (fetchFault (now (states .entry)) core) mem (now (states .exit)) (tells r noStore)) ⌝ }
 {
-    let x = commit::inputs::state_at(states, core);
     let fault = Faulted {
         cause: Cause::Bus,
-        eear: x.flow.pc,
+        eear: states[core * state::STATE_WORDS + state::PC],
     };
-    let base = core * state::STATE_WORDS;
-    let end = base + state::STATE_WORDS;
-    commit::own_state::commit_state(&mut states[base..end], effects::fault_effect(x, fault))
+    raise(states, core, fault)
 }

@@ -34,10 +34,15 @@ pub extern "C" fn or1k_encode(entry: u64) -> u64
 }
 
 #[no_mangle]
-pub extern "C" fn or1k_plain_run(memory: &mut [u8], states: &mut [u32], schedule: &[u8]) -> u64
-    ensures { λ r. ⌜ PlainRun (lent (now (memory .entry)) (now (states .entry)) (now (schedule .entry))) (left (now (memory .exit)) (now (states .exit))) r ⌝ }
+pub extern "C" fn or1k_plain_run(
+    memory: &mut [u8],
+    states: &mut [u32],
+    schedule: &[u8],
+    levels: &[u32],
+) -> u64
+    ensures { λ r. ⌜ PlainRun (lent (now (memory .entry)) (now (states .entry)) (now (schedule .entry)) (now (levels .entry))) (left (now (memory .exit)) (now (states .exit))) r ⌝ }
 {
-    engine::answer::pack(engine::plain::plain_run(memory, states, schedule))
+    engine::answer::pack(engine::plain::plain_run(memory, states, schedule, levels))
 }
 
 #[no_mangle]
@@ -45,9 +50,10 @@ pub extern "C" fn or1k_fast_run(
     memory: &mut [u8],
     states: &mut [u32],
     schedule: &[u8],
+    levels: &[u32],
     cache: &mut [u64],
 ) -> u64
-    ensures { λ r. ⌜ FastRun (lent (now (memory .entry)) (now (states .entry)) (now (schedule .entry))) (now (cache .entry)) (left (now (memory .exit)) (now (states .exit))) (now (cache .exit)) r ⌝ }
+    ensures { λ r. ⌜ FastRun (lent (now (memory .entry)) (now (states .entry)) (now (schedule .entry)) (now (levels .entry))) (now (cache .entry)) (left (now (memory .exit)) (now (states .exit))) (now (cache .exit)) r ⌝ }
 {
-    engine::answer::pack(engine::fast::fast_run(memory, states, schedule, cache))
+    engine::answer::pack(engine::fast::fast_run(memory, states, schedule, levels, cache))
 }

@@ -15,7 +15,7 @@ use Rattle.isa.specs.declared.kinds.Form.the-variants.{Zext, Sext, Jump}
 use Rattle.isa.specs.declared.kinds.Shape.{Shape}
 use Rattle.isa.specs.declared.entry.Fields.{Fields}
 use Rattle.isa.specs.declared.vectors.Cause.{Cause}
-use Rattle.isa.specs.declared.vectors.Cause.the-variants.{Bus, Alignment, Illegal, Range, Syscall, Trap}
+use Rattle.isa.specs.declared.vectors.Cause.the-variants.{Bus, Alignment, Illegal, Range, Syscall, Trap, Interrupt}
 
 -- the kind of a word
 unfoldable pub kindOf : ℕ → ℕ
@@ -123,3 +123,4 @@ causeNumber Illegal = 2
 causeNumber Range = 3
 causeNumber Syscall = 4
 causeNumber Trap = 5
+causeNumber Interrupt = 6

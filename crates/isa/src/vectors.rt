@@ -10,9 +10,10 @@ pub enum Cause {
     Range,
     Syscall,
     Trap,
+    Interrupt,
 }
 
-const VECTORS: [u32; 6] = [0x200, 0x600, 0x700, 0xb00, 0xc00, 0xe00];
+const VECTORS: [u32; 7] = [0x200, 0x600, 0x700, 0xb00, 0xc00, 0xe00, 0x800];
 
 // The place of a cause in the table.
 fn number(cause: Cause) -> usize
@@ -25,6 +26,7 @@ fn number(cause: Cause) -> usize
         Cause::Range => 3,
         Cause::Syscall => 4,
         Cause::Trap => 5,
+        Cause::Interrupt => 6,
     }
 }
 

@@ -17,14 +17,14 @@ use Rattle.text.specs.Lines.{Line, lines}
 use Rattle.text.proofs.Stores.{sets-next, sets-front}
 use Rattle.memory.specs.Memory.{stored}
 use Rattle.memory.proofs.Laws.{length-stored}
-use Rattle.effect.specs.State.{stateWords, pcAt, srAt, esrAt, modeAt, running}
+use Rattle.effect.specs.State.{stateWords, pcAt, srAt, esrAt, modeAt, picmrAt, running}
 use Rattle.card.specs.Card.{Job, Verdict, good, refused, imageFault, cardSays, step, stop, first, word, every}
 use Rattle.card.specs.Answer.{wordsFrom}
 use Rattle.card.specs.Inner.{stepIn}
 use Rattle.card.specs.declared.Cause.{Cause}
 use Rattle.card.specs.declared.Field.{Field}
 use Rattle.card.specs.declared.Field.the-variants.{Value, Fault}
-use Rattle.job.specs.Job.{reading, filled, memoryOf, imageAfter, imageLength, entries, resetSR, resetState, resetStates}
+use Rattle.job.specs.Job.{reading, filled, memoryOf, imageAfter, imageLength, entries, resetSR, resetPICMR, resetState, resetStates}
 
 -- ---- the words of memory
 
@@ -156,13 +156,15 @@ length-states entry (suc n) = let e = length-states entry n in simp (length-appe
 
 -- a word of a reset state that is not set is 0
 pub reset-zero : (entry place : ℕ) → place < stateWords → (place ≡ pcAt → ⊥) → (place ≡ srAt → ⊥) → (place ≡ esrAt → ⊥) → (place ≡ modeAt → ⊥)
-    → 0 ≡ getD (resetState entry) place 0
-reset-zero entry place h pc sr esr mode =
+    → (place ≡ picmrAt → ⊥) → 0 ≡ getD (resetState entry) place 0
+reset-zero entry place h pc sr esr mode picmr =
     let z : List ℕ = replicate stateWords 0 in
     let a : List ℕ = set z pcAt entry in
     let b : List ℕ = set a srAt resetSR in
+    let d : List ℕ = set b esrAt resetSR in
     sym
-    (getD-set-other (set b esrAt resetSR) modeAt place running 0 mode
+    (getD-set-other (set d modeAt running) picmrAt place resetPICMR 0 picmr
+    ∙ getD-set-other d modeAt place running 0 mode
     ∙ getD-set-other b esrAt place resetSR 0 esr
     ∙ getD-set-other a srAt place resetSR 0 sr
     ∙ getD-set-other z pcAt place entry 0 pc

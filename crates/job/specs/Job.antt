@@ -6,7 +6,7 @@ use lib.Seq.{sets}
 use lib.Dec.{eqb}
 use Rattle.bits.specs.Choice.{if_then_else_}
 use Rattle.memory.specs.Memory.{stored}
-use Rattle.effect.specs.State.{stateWords, pcAt, srAt, esrAt, modeAt, running}
+use Rattle.effect.specs.State.{stateWords, pcAt, srAt, esrAt, modeAt, picmrAt, running}
 use Rattle.card.specs.Card.{Job, Verdict, good, refused, imageFault, cardSays}
 
 -- "a lent image of 16,384"
@@ -39,9 +39,13 @@ entries schedule (suc n) = entries schedule n ++ (getD schedule (n % length sche
 abbrev pub resetSR : ℕ
 resetSR = 0x8001
 
--- "Reset: PC the entry, SR and ESR 00008001, mode 3, the rest 0."
+abbrev pub resetPICMR : ℕ
+resetPICMR = 3
+
+-- "Reset: PC the entry, SR and ESR 00008001, mode 3, the rest 0." Document 02, note 4: "PICMR 3 at reset"
 abbrev pub resetState : ℕ → List ℕ
-resetState entry = set (set (set (set (replicate stateWords 0) pcAt entry) srAt resetSR) esrAt resetSR) modeAt running
+resetState entry =
+    set (set (set (set (set (replicate stateWords 0) pcAt entry) srAt resetSR) esrAt resetSR) modeAt running) picmrAt resetPICMR
 
 -- the states of n cores, one after the other
 unfoldable pub resetStates : ℕ → ℕ → List ℕ

@@ -18,6 +18,8 @@ pub const IMAGE: usize = 16384;
 
 const RESET_SR: u32 = 0x8001;
 
+const RESET_PICMR: u32 = 3;
+
 // Reads a card: a good one's job, with its memory laid out in the image; or the refusal, and nothing written.
 pub fn read_job(card: &[u8], image: &mut [u8]) -> Reading
     ensures { λ r. ⌜ ReadJob (now (card .entry)) (now (image .entry)) (now (image .exit)) r ⌝ }
@@ -116,6 +118,7 @@ fn reset_word(place: usize, entry: u32) -> u32
         state::SR => RESET_SR,
         state::ESR => RESET_SR,
         state::MODE => state::RUNNING,
+        state::PICMR => RESET_PICMR,
         _ => 0,
     }
 }

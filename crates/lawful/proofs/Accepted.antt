@@ -69,6 +69,7 @@ module _ (board : Board) (s : List ℕ) (core : ℕ) where
         epcr-lawful = eqb→eq _ 0 (h .1 .1 .1 .1 .1 .1 .0);
         esr-lawful = eqb→eq _ _ (h .1 .1 .1 .1 .1 .1 .1 .1 .1 .1 .1 .0);
         mode-lawful = mode-of _ (h .1 .1 .0);
+        mask-lawful = eqb→eq _ 3 (h .1 .1 .1 .1 .1 .1 .1 .1 .1 .1 .1 .1 .0);
       }
 
   pub means-accepted : Accepted board s core → T (accepted board s core)
@@ -94,7 +95,7 @@ module _ (board : Board) (s : List ℕ) (core : ℕ) where
                       same _ 0 (l .address-multiple),
                       (
                         zero-when _ _ (f .no-target),
-                        (zero-when _ _ (l .no-address), (same _ _ (a .sr-lawful), (same _ _ (a .esr-lawful), tt))),
+                        (zero-when _ _ (l .no-address), (same _ _ (a .sr-lawful), (same _ _ (a .esr-lawful), (same _ 3 (a .mask-lawful), tt)))),
                       ),
                     ),
                   ),

@@ -1,18 +1,19 @@
 -- What an effect leaves in the states: its core's words read back, every other core's, and that accepted states stay accepted. Assumes nothing.
-use mathlib.Core.Bool.{Bool, true, false, _&&_}
+use mathlib.Core.Bool.{Bool, true, false, _&&_, not}
 use mathlib.Core.List.{List, [], _∷_}
 use mathlib.Core.Path.{_≡_, refl, sym, ap, _∙_}
 use Prim.Native.Nat.{ℕ, _+_, _*_, _<_, _≤_}
+use native.Mathlib.Nat.{le-refl}
 use native.Mathlib.Omega.{arith}
 use lib.Dec.{T, eqb, ltb, ltb→lt}
 use lib.ListN.{length, length-set}
 use lib.Seq.{getD-set-same, getD-set-other}
-use borrow.Author.Tests.{ne-eqb, eqb-true, eqb-false}
+use borrow.Author.Tests.{ne-eqb, eqb-true, eqb-false, not-true}
 use Rattle.bits.specs.Choice.{if_then_else_}
-use Rattle.bits.proofs.Tests.{and-left, and-right}
+use Rattle.bits.proofs.Tests.{and-left, and-right, of-T}
 use Rattle.bits.proofs.Cases.{if-law, if-both}
 use Rattle.isa.specs.Vectors.{vector}
-use Rattle.effect.specs.State.{stateWords, pcAt, delayAt, targetAt, srAt, epcrAt, eearAt, esrAt, linkAt, linkAddressAt, modeAt, machiAt, macloAt}
+use Rattle.effect.specs.State.{stateWords, pcAt, delayAt, targetAt, srAt, epcrAt, eearAt, esrAt, linkAt, linkAddressAt, modeAt, machiAt, macloAt, picmrAt, picsrAt}
 use Rattle.effect.specs.declared.types.Board.{Board}
 use Rattle.effect.specs.declared.types.Accumulated.{Accumulated}
 use Rattle.effect.specs.declared.types.Accumulated.the-variants.{Kept, Became}
@@ -20,7 +21,7 @@ use Rattle.effect.specs.declared.types.Outcome.{Outcome}
 use Rattle.effect.specs.declared.types.Outcome.the-variants.{Completed, Raised}
 use Rattle.effect.specs.declared.types.Effect.{Effect}
 use Rattle.commit.specs.Commit.{wordAt, put, putValue, putFlow, putStatus, putAccumulated, putException, ownState}
-use Rattle.lawful.specs.Inner.{Status, Multiple, LawfulState, LawfulWord, to-register, to-epcr, to-eear, to-esr, to-machi, to-maclo, LawfulOutcome, completes, raised, Lawful}
+use Rattle.lawful.specs.Inner.{Status, Multiple, Mask, LawfulState, LawfulWord, to-register, to-epcr, to-eear, to-esr, to-machi, to-maclo, to-picmr, to-picsr, LawfulOutcome, completes, raised, Lawful}
 use Rattle.lawful.specs.Accepted.{Accepted}
 use Rattle.lawful.proofs.Lawful.{vector-multiple}
 
@@ -95,13 +96,26 @@ own-puts s core e = go (e .accumulated) (e .outcome)
     go (Became m) Completed = refl
     go (Became m) (Raised x) = refl
 
--- the accumulator is seen at no other place
-unseen : (a : Accumulated) (l : List (ℕ × ℕ)) (j d : ℕ) → (j ≡ machiAt → ⊥) → (j ≡ macloAt → ⊥) → seen (accumulations a l) j d ≡ seen l j d
-unseen Kept l j d g h = refl
-unseen (Became m) l j d g h = ap (seen l j) kept
+-- some rule looks at the place; at MACHI, MACLO and PICSR none does
+abbrev pub ruled : ℕ → Bool
+ruled j = not (eqb machiAt j) && (not (eqb macloAt j) && not (eqb picsrAt j))
+
+-- the accumulator is seen at no such place
+unseen : (a : Accumulated) (l : List (ℕ × ℕ)) (j d : ℕ) → T (ruled j) → seen (accumulations a l) j d ≡ seen l j d
+unseen Kept l j d t = refl
+unseen (Became m) l j d t = ap (seen l j) kept
   where
+    rest : Bool
+    rest = not (eqb macloAt j) && not (eqb picsrAt j)
+
+    high : eqb machiAt j ≡ false
+    high = not-true _ (of-T _ (and-left (not (eqb machiAt j)) rest t))
+
+    low : eqb macloAt j ≡ false
+    low = not-true _ (of-T _ (and-left (not (eqb macloAt j)) (not (eqb picsrAt j)) (and-right (not (eqb machiAt j)) rest t)))
+
     kept : (if eqb macloAt j then m .low else if eqb machiAt j then m .high else d) ≡ d
-    kept = rw (ne-eqb macloAt j (λ z. h (sym z)), ne-eqb machiAt j (λ z. g (sym z)))
+    kept = rw (low, high)
 
 length-value : (s : List ℕ) (core : ℕ) (e : Effect) → length (putValue s core e) ≡ length s
 unfolding putValue
@@ -122,20 +136,20 @@ own-other s core e c j h n g =
 
 -- ---- an accepted state stays accepted
 
--- no rule looks at MACHI and MACLO
-pub lawful-same : {board : Board} {core : ℕ} (g h : ℕ → ℕ) → ((j : ℕ) → j < stateWords → (j ≡ machiAt → ⊥) → (j ≡ macloAt → ⊥) → h j ≡ g j) → LawfulState board core g
+pub lawful-same : {board : Board} {core : ℕ} (g h : ℕ → ℕ) → ((j : ℕ) → j < stateWords → T (ruled j) → h j ≡ g j) → LawfulState board core g
     → LawfulState board core h
 lawful-same g h q a =
-    let r0 : h 0 ≡ g 0 = q 0 (omega arith) (λ z. omega arith) (λ z. omega arith) in
-    let r32 : h pcAt ≡ g pcAt = q pcAt (omega arith) (λ z. omega arith) (λ z. omega arith) in
-    let r33 : h delayAt ≡ g delayAt = q delayAt (omega arith) (λ z. omega arith) (λ z. omega arith) in
-    let r34 : h targetAt ≡ g targetAt = q targetAt (omega arith) (λ z. omega arith) (λ z. omega arith) in
-    let r35 : h srAt ≡ g srAt = q srAt (omega arith) (λ z. omega arith) (λ z. omega arith) in
-    let r36 : h epcrAt ≡ g epcrAt = q epcrAt (omega arith) (λ z. omega arith) (λ z. omega arith) in
-    let r38 : h esrAt ≡ g esrAt = q esrAt (omega arith) (λ z. omega arith) (λ z. omega arith) in
-    let r39 : h linkAt ≡ g linkAt = q linkAt (omega arith) (λ z. omega arith) (λ z. omega arith) in
-    let r40 : h linkAddressAt ≡ g linkAddressAt = q linkAddressAt (omega arith) (λ z. omega arith) (λ z. omega arith) in
-    let r41 : h modeAt ≡ g modeAt = q modeAt (omega arith) (λ z. omega arith) (λ z. omega arith) in
+    let r0 : h 0 ≡ g 0 = q 0 (omega arith) tt in
+    let r32 : h pcAt ≡ g pcAt = q pcAt (omega arith) tt in
+    let r33 : h delayAt ≡ g delayAt = q delayAt (omega arith) tt in
+    let r34 : h targetAt ≡ g targetAt = q targetAt (omega arith) tt in
+    let r35 : h srAt ≡ g srAt = q srAt (omega arith) tt in
+    let r36 : h epcrAt ≡ g epcrAt = q epcrAt (omega arith) tt in
+    let r38 : h esrAt ≡ g esrAt = q esrAt (omega arith) tt in
+    let r39 : h linkAt ≡ g linkAt = q linkAt (omega arith) tt in
+    let r40 : h linkAddressAt ≡ g linkAddressAt = q linkAddressAt (omega arith) tt in
+    let r41 : h modeAt ≡ g modeAt = q modeAt (omega arith) tt in
+    let r44 : h picmrAt ≡ g picmrAt = q picmrAt (omega arith) tt in
     record {
       zero-register = r0 ∙ a .zero-register;
       flow-lawful = rw (r32, r33, r34) (a .flow-lawful);
@@ -144,19 +158,21 @@ lawful-same g h q a =
       epcr-lawful = rw r36 (a .epcr-lawful);
       esr-lawful = rw r38 (a .esr-lawful);
       mode-lawful = rw r41 (a .mode-lawful);
+      mask-lawful = rw r44 (a .mask-lawful);
     }
 
--- r0, EPCR and ESR after the value is written
+-- r0, EPCR, ESR and PICMR after the value is written
 record Value (g : ℕ → ℕ) : Type 0 where
   zero-kept : g 0 ≡ 0
   epcr-kept : Multiple (g epcrAt)
   esr-kept : Status (g esrAt)
+  mask-kept : Mask (g picmrAt)
 
 module _ {board : Board} (s : List ℕ) (core : ℕ) (fits : core * stateWords + stateWords ≤ length s) (a : Accepted board s core) where
-  value-kept : (p v : ℕ) → LawfulWord p v → Value (wordAt (if eqb p 0 then s else put s core p v) core)
-  value-kept p v w =
+  value-kept : {picsr : ℕ} (p v : ℕ) → LawfulWord picsr p v → Value (wordAt (if eqb p 0 then s else put s core p v) core)
+  value-kept {picsr} p v w =
       if-law (λ (t : List ℕ). Value (wordAt t core)) (eqb p 0)
-      (λ _. record { zero-kept = a .zero-register; epcr-kept = a .epcr-lawful; esr-kept = a .esr-lawful })
+      (λ _. record { zero-kept = a .zero-register; epcr-kept = a .epcr-lawful; esr-kept = a .esr-lawful; mask-kept = a .mask-lawful })
       (λ n. go w (eqb-false p 0 n))
     where
       at : (p v j : ℕ) → j < stateWords → wordAt (put s core p v) core j ≡ (if eqb p j then v else wordAt s core j)
@@ -166,33 +182,44 @@ module _ {board : Board} (s : List ℕ) (core : ℕ) (fits : core * stateWords +
       other p v j h n = at p v j h ∙ rw (ne-eqb p j n)
 
       -- a word elsewhere
-      untouched : (p v : ℕ) → (p ≡ 0 → ⊥) → (p ≡ epcrAt → ⊥) → (p ≡ esrAt → ⊥) → Value (wordAt (put s core p v) core)
-      untouched p v n e f =
+      untouched : (p v : ℕ) → (p ≡ 0 → ⊥) → (p ≡ epcrAt → ⊥) → (p ≡ esrAt → ⊥) → (p ≡ picmrAt → ⊥) → Value (wordAt (put s core p v) core)
+      untouched p v n e f m =
           record {
             zero-kept = other p v 0 (omega arith) n ∙ a .zero-register;
             epcr-kept = rw (other p v epcrAt (omega arith) e) (a .epcr-lawful);
             esr-kept = rw (other p v esrAt (omega arith) f) (a .esr-lawful);
+            mask-kept = rw (other p v picmrAt (omega arith) m) (a .mask-lawful);
           }
 
-      go : {p v : ℕ} → LawfulWord p v → (p ≡ 0 → ⊥) → Value (wordAt (put s core p v) core)
-      go {p} {v} (to-register h) n = untouched p v n (λ z. omega arith) (λ z. omega arith)
+      go : {p v : ℕ} → LawfulWord picsr p v → (p ≡ 0 → ⊥) → Value (wordAt (put s core p v) core)
+      go {p} {v} (to-register h) n = untouched p v n (λ z. omega arith) (λ z. omega arith) (λ z. omega arith)
       go {p} {v} (to-epcr m) n =
           record {
             zero-kept = at epcrAt v 0 (omega arith) ∙ a .zero-register;
             epcr-kept = rw (at epcrAt v epcrAt (omega arith)) m;
             esr-kept = rw (at epcrAt v esrAt (omega arith)) (a .esr-lawful);
+            mask-kept = rw (at epcrAt v picmrAt (omega arith)) (a .mask-lawful);
           }
-      go {p} {v} to-eear n = untouched eearAt v n (λ z. omega arith) (λ z. omega arith)
+      go {p} {v} to-eear n = untouched eearAt v n (λ z. omega arith) (λ z. omega arith) (λ z. omega arith)
       go {p} {v} (to-esr m) n =
           record {
             zero-kept = at esrAt v 0 (omega arith) ∙ a .zero-register;
             epcr-kept = rw (at esrAt v epcrAt (omega arith)) (a .epcr-lawful);
             esr-kept = rw (at esrAt v esrAt (omega arith)) m;
+            mask-kept = rw (at esrAt v picmrAt (omega arith)) (a .mask-lawful);
           }
-      go {p} {v} to-machi n = untouched machiAt v n (λ z. omega arith) (λ z. omega arith)
-      go {p} {v} to-maclo n = untouched macloAt v n (λ z. omega arith) (λ z. omega arith)
+      go {p} {v} to-machi n = untouched machiAt v n (λ z. omega arith) (λ z. omega arith) (λ z. omega arith)
+      go {p} {v} to-maclo n = untouched macloAt v n (λ z. omega arith) (λ z. omega arith) (λ z. omega arith)
+      go {p} {v} (to-picmr m) n =
+          record {
+            zero-kept = at picmrAt v 0 (omega arith) ∙ a .zero-register;
+            epcr-kept = rw (at picmrAt v epcrAt (omega arith)) (a .epcr-lawful);
+            esr-kept = rw (at picmrAt v esrAt (omega arith)) (a .esr-lawful);
+            mask-kept = rw (at picmrAt v picmrAt (omega arith)) m;
+          }
+      go {p} {v} (to-picsr m) n = untouched picsrAt v n (λ z. omega arith) (λ z. omega arith) (λ z. omega arith)
 
-  changed : (e : Effect) → Lawful e → {o : Outcome} → LawfulOutcome o → (t : List ℕ) → Value (wordAt t core)
+  changed : {picsr : ℕ} (e : Effect) → Lawful picsr e → {o : Outcome} → LawfulOutcome o → (t : List ℕ) → Value (wordAt t core)
       → LawfulState board core (λ j. seen (changes e Kept o) j (wordAt t core j))
   changed e l completes t v =
       record {
@@ -203,6 +230,7 @@ module _ {board : Board} (s : List ℕ) (core : ℕ) (fits : core * stateWords +
         epcr-lawful = v .epcr-kept;
         esr-lawful = v .esr-kept;
         mode-lawful = l .mode-lawful;
+        mask-lawful = v .mask-kept;
       }
   changed e l (raised {x} m q) t v =
       record {
@@ -218,15 +246,52 @@ module _ {board : Board} (s : List ℕ) (core : ℕ) (fits : core * stateWords +
         epcr-lawful = m;
         esr-lawful = q;
         mode-lawful = l .mode-lawful;
+        mask-lawful = v .mask-kept;
       }
 
-  pub own-accepted : (e : Effect) → Lawful e → Accepted board (ownState s core e) core
+  pub own-accepted : {picsr : ℕ} (e : Effect) → Lawful picsr e → Accepted board (ownState s core e) core
   unfolding putValue
   own-accepted e l =
       let t = putValue s core e in
       let n : length t ≡ length s = length-value s core e in
       lawful-same (λ j. seen (changes e Kept (e .outcome)) j (wordAt t core j)) (wordAt (ownState s core e) core)
-      (λ j h p q.
+      (λ j h t′.
       ap (λ (u : List ℕ). wordAt u core j) (own-puts s core e) ∙ puts-seen (changes e (e .accumulated) (e .outcome)) t core j (omega arith)
-      ∙ unseen (e .accumulated) (exceptional (e .outcome)) j _ p q)
+      ∙ unseen (e .accumulated) (exceptional (e .outcome)) j _ t′)
       (changed e l (l .outcome-lawful) t (value-kept (e .place) (e .value) (l .word-lawful)))
+
+-- ---- PICSR never grows
+
+-- nothing but the value is put there
+picsr-unseen : (e : Effect) (a : Accumulated) (o : Outcome) (d : ℕ) → seen (changes e a o) picsrAt d ≡ d
+picsr-unseen e Kept Completed d = refl
+picsr-unseen e Kept (Raised x) d = refl
+picsr-unseen e (Became m) Completed d = refl
+picsr-unseen e (Became m) (Raised x) d = refl
+
+module _ (s : List ℕ) (core : ℕ) (fits : core * stateWords + stateWords ≤ length s) where
+  value-picsr : (p v : ℕ) → LawfulWord (wordAt s core picsrAt) p v → wordAt (if eqb p 0 then s else put s core p v) core picsrAt ≤ wordAt s core picsrAt
+  value-picsr p v w = if-both (λ (t : List ℕ). wordAt t core picsrAt ≤ wordAt s core picsrAt) (eqb p 0) (le-refl _) (go w)
+    where
+      at : (p v : ℕ) → wordAt (put s core p v) core picsrAt ≡ (if eqb p picsrAt then v else wordAt s core picsrAt)
+      at p v = puts-seen ((p, v) ∷ []) s core picsrAt (omega arith)
+
+      go : {p v : ℕ} → LawfulWord (wordAt s core picsrAt) p v → wordAt (put s core p v) core picsrAt ≤ wordAt s core picsrAt
+      go {p} {v} (to-register h) = rw (at p v, ne-eqb p picsrAt (λ z. omega arith)) (le-refl _)
+      go {p} {v} (to-epcr m) = rw (at epcrAt v) (le-refl _)
+      go {p} {v} to-eear = rw (at eearAt v) (le-refl _)
+      go {p} {v} (to-esr m) = rw (at esrAt v) (le-refl _)
+      go {p} {v} to-machi = rw (at machiAt v) (le-refl _)
+      go {p} {v} to-maclo = rw (at macloAt v) (le-refl _)
+      go {p} {v} (to-picmr m) = rw (at picmrAt v) (le-refl _)
+      go {p} {v} (to-picsr m) = rw (at picsrAt v) m
+
+  pub own-picsr : (e : Effect) → Lawful (wordAt s core picsrAt) e → wordAt (ownState s core e) core picsrAt ≤ wordAt s core picsrAt
+  unfolding putValue
+  own-picsr e l =
+      let t = putValue s core e in
+      let n : length t ≡ length s = length-value s core e in
+      let q : wordAt (ownState s core e) core picsrAt ≡ wordAt t core picsrAt =
+      ap (λ (u : List ℕ). wordAt u core picsrAt) (own-puts s core e) ∙ puts-seen (changes e (e .accumulated) (e .outcome)) t core picsrAt (omega arith)
+      ∙ picsr-unseen e (e .accumulated) (e .outcome) (wordAt t core picsrAt) in
+      rw q (value-picsr (e .place) (e .value) (l .word-lawful))

@@ -14,9 +14,10 @@ use Rattle.isa.specs.declared.entry.Fields.{Fields}
 use Rattle.isa.proofs.Registers.{fields-registers}
 use Rattle.memory.specs.Memory.{stored, memoryWord}
 use Rattle.memory.proofs.Laws.{length-stored, other-word-kept}
+use Rattle.effect.specs.State.{picsrAt}
 use Rattle.effect.specs.declared.types.Board.{Board}
 use Rattle.effect.specs.declared.types.Effect.{Effect}
-use Rattle.commit.specs.Commit.{inputs, writesMemory, touched, memoryAfter}
+use Rattle.commit.specs.Commit.{wordAt, inputs, writesMemory, touched, memoryAfter}
 use Rattle.semantics.specs.Meaning.{effectOf}
 use Rattle.lawful.specs.Inner.{Sound, SoundStore, none, some, LawfulInputs, Lawful}
 use Rattle.lawful.specs.Accepted.{Accepted}
@@ -48,7 +49,7 @@ module _ (board : Board) (mem s : List ℕ) (core : ℕ) where
 
   -- that of an entry that some word decodes to
   module _ (w : ℕ) where
-    pub decoded-lawful : Accepted board s core → Lawful (effectOf board mem s core (decode w))
+    pub decoded-lawful : Accepted board s core → Lawful (wordAt s core picsrAt) (effectOf board mem s core (decode w))
     unfolding inputs
     decoded-lawful a =
         let f = fieldsOf (decode w) in

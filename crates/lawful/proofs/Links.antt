@@ -62,7 +62,7 @@ module _ (s : List ℕ) (core w : ℕ) where
     unfolding clearLink
     clear-own {board} a =
         if-both (λ (t : List ℕ). Accepted board t core) (linkedTo (linkOf s core) w)
-        (lawful-same (λ j. seen cleared j (wordAt s core j)) (wordAt (puts cleared s core) core) (λ j h _ _. puts-seen cleared s core j (omega arith))
+        (lawful-same (λ j. seen cleared j (wordAt s core j)) (wordAt (puts cleared s core) core) (λ j h _. puts-seen cleared s core j (omega arith))
         record {
           zero-register = a .zero-register;
           flow-lawful = a .flow-lawful;
@@ -71,6 +71,7 @@ module _ (s : List ℕ) (core w : ℕ) where
           epcr-lawful = a .epcr-lawful;
           esr-lawful = a .esr-lawful;
           mode-lawful = a .mode-lawful;
+          mask-lawful = a .mask-lawful;
         })
         a
 
@@ -78,7 +79,7 @@ module _ (s : List ℕ) (core w : ℕ) where
     clear-accepted a c h =
         let l : length (clearLink s core w) ≡ length s = length-clear in
         by-equality c core (λ e. rw e (clear-own (a core (omega arith))))
-        (λ n. lawful-same (wordAt s c) (wordAt (clearLink s core w) c) (λ j g _ _. clear-other c j n g) (a c (omega arith)))
+        (λ n. lawful-same (wordAt s c) (wordAt (clearLink s core w) c) (λ j g _. clear-other c j n g) (a c (omega arith)))
 
 -- ---- every core's
 

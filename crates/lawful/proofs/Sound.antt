@@ -17,7 +17,7 @@ use Rattle.arith.specs.declared.Flagged.{Flagged}
 use Rattle.memory.specs.Memory.{Width, word-wide, access}
 use Rattle.memory.proofs.Laws.{granted-inside, granted-in-word}
 use Rattle.product.specs.declared.Accumulator.{Accumulator}
-use Rattle.effect.specs.State.{stateWords, epcrAt, eearAt, esrAt, machiAt, macloAt}
+use Rattle.effect.specs.State.{stateWords, epcrAt, eearAt, esrAt, machiAt, macloAt, picmrAt, picsrAt}
 use Rattle.effect.specs.Effect.{inSlot, advances, raises, faults, accumulating}
 use Rattle.effect.specs.declared.types.Inputs.{Inputs}
 use Rattle.effect.specs.declared.types.Board.{Board}
@@ -102,7 +102,9 @@ module _ (len : ℕ) (x : Inputs) where
       if-both (Sound len) (eqb n 64) (advances-sound esrAt _ _ (omega arith)) (
       if-both (Sound len) (eqb n 0x2801) (advances-sound macloAt v _ (omega arith)) (
       if-both (Sound len) (eqb n 0x2802) (advances-sound machiAt v _ (omega arith)) (
-      advances-sound 0 0 _ (omega arith)))))))
+      if-both (Sound len) (eqb n 0x4800) (advances-sound picmrAt _ _ (omega arith)) (
+      if-both (Sound len) (eqb n 0x4802) (advances-sound picsrAt _ _ (omega arith)) (
+      advances-sound 0 0 _ (omega arith)))))))))
 
   pub accumulating-sound : (place v : ℕ) → place < stateWords → (m : Accumulator) → Sound len (accumulating x place v m)
   accumulating-sound place v h m = record { place-lt = h; sound-store = none refl }

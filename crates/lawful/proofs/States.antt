@@ -2,30 +2,33 @@
 use mathlib.Core.Bool.{Bool, true, false, _&&_}
 use mathlib.Core.List.{List}
 use mathlib.Core.Path.{_≡_, ap, ap₂, _∙_}
-use Prim.Native.Nat.{ℕ, _*_, _<_}
+use Prim.Native.Nat.{ℕ, _*_, _<_, _≤_}
+use native.Mathlib.Nat.{le-refl}
 use native.Mathlib.Omega.{arith}
 use lib.ListN.{length}
 use Rattle.bits.specs.Choice.{if_then_else_}
 use Rattle.bits.proofs.Cases.{if-both, by-equality}
-use Rattle.effect.specs.State.{stateWords, linkAt, linkAddressAt}
+use Rattle.effect.specs.State.{stateWords, linkAt, linkAddressAt, picsrAt}
 use Rattle.effect.specs.Effect.{noLink}
 use Rattle.effect.specs.declared.types.Link.{Link}
 use Rattle.effect.specs.declared.types.Effect.{Effect}
 use Rattle.effect.specs.declared.types.Board.{Board}
 use Rattle.commit.specs.Commit.{wordAt, coreCount, ownState, clearLinks, writesMemory, touched, statesAfter}
-use Rattle.lawful.specs.Inner.{LawfulWord, to-register, to-epcr, to-eear, to-esr, to-machi, to-maclo, Lawful}
+use Rattle.lawful.specs.Inner.{LawfulWord, to-register, to-epcr, to-eear, to-esr, to-machi, to-maclo, to-picmr, to-picsr, Lawful}
 use Rattle.lawful.specs.Accepted.{AllAccepted}
-use Rattle.lawful.proofs.Commit.{length-own, own-other, own-accepted, lawful-same}
+use Rattle.lawful.proofs.Commit.{length-own, own-other, own-accepted, own-picsr, lawful-same}
 use Rattle.lawful.proofs.Links.{linkOf, linkedTo, length-clears, clears-rest, clears-link, clears-accepted}
 
 -- a lawful effect writes inside its core's state
-pub lawful-place : {place v : ℕ} → LawfulWord place v → place < stateWords
+pub lawful-place : {picsr place v : ℕ} → LawfulWord picsr place v → place < stateWords
 lawful-place (to-register h) = omega arith
 lawful-place (to-epcr m) = omega arith
 lawful-place to-eear = omega arith
 lawful-place (to-esr m) = omega arith
 lawful-place to-machi = omega arith
 lawful-place to-maclo = omega arith
+lawful-place (to-picmr m) = omega arith
+lawful-place (to-picsr m) = omega arith
 
 module _ (s : List ℕ) (core : ℕ) (e : Effect) where
   pub length-states : length (statesAfter s core e) ≡ length s
@@ -65,7 +68,7 @@ module _ (s : List ℕ) (core : ℕ) (e : Effect) where
       go o k true = k ∙ ap (λ (m : Link). if linkedTo m (touched e * 4) then noLink else m) o
       go o k false = o
 
-  pub states-accepted : {board : Board} → Lawful e → core < coreCount s → AllAccepted board s → AllAccepted board (statesAfter s core e)
+  pub states-accepted : {board : Board} {picsr : ℕ} → Lawful picsr e → core < coreCount s → AllAccepted board s → AllAccepted board (statesAfter s core e)
   unfolding statesAfter
   states-accepted {board} l h a =
       if-both (AllAccepted board) (writesMemory e) (clears-accepted (ownState s core e) (touched e * 4) (coreCount s) (omega (arith, length-own s core e)) own) own
@@ -75,4 +78,20 @@ module _ (s : List ℕ) (core : ℕ) (e : Effect) where
           let n : length (ownState s core e) ≡ length s = length-own s core e in
           by-equality c core (λ q. rw q (own-accepted s core (omega arith) (a core h) e l))
           (λ q.
-          lawful-same (wordAt s c) (wordAt (ownState s core e) c) (λ j g _ _. own-other s core e c j (lawful-place (l .word-lawful)) q g) (a c (omega arith)))
+          lawful-same (wordAt s c) (wordAt (ownState s core e) c) (λ j g _. own-other s core e c j (lawful-place (l .word-lawful)) q g) (a c (omega arith)))
+
+  -- no core's PICSR grows
+  pub states-picsr : Lawful (wordAt s core picsrAt) e → core < coreCount s → (c : ℕ) → c < coreCount s → wordAt (statesAfter s core e) c picsrAt ≤ wordAt s c picsrAt
+  unfolding statesAfter
+  states-picsr l h c i =
+      by-equality c core
+      (λ q. rw q
+      (if-both (λ (u : List ℕ). wordAt u core picsrAt ≤ wordAt s core picsrAt) (writesMemory e)
+      (rw (clears-rest (ownState s core e) (touched e * 4) (coreCount s) core picsrAt few (omega arith) (λ z. omega arith) (λ z. omega arith)) own) own))
+      (λ q. rw (other-states c picsrAt (lawful-place (l .word-lawful)) q (omega arith) (λ z. omega arith) (λ z. omega arith)) (le-refl _))
+    where
+      few : coreCount s ≤ coreCount (ownState s core e)
+      few = let n : length (ownState s core e) ≡ length s = length-own s core e in omega arith
+
+      own : wordAt (ownState s core e) core picsrAt ≤ wordAt s core picsrAt
+      own = own-picsr s core (omega arith) e l

@@ -5,7 +5,7 @@ use Prim.Native.Nat.{ℕ, _+_, _%_, _<_, _≤_}
 use Rattle.isa.specs.Register.{Register}
 use Rattle.arith.specs.Status.{allowed}
 use Rattle.memory.specs.Memory.{Width}
-use Rattle.effect.specs.State.{stateWords, pcAt, delayAt, targetAt, srAt, epcrAt, eearAt, esrAt, linkAt, linkAddressAt, modeAt, machiAt, macloAt, halted, running}
+use Rattle.effect.specs.State.{stateWords, pcAt, delayAt, targetAt, srAt, epcrAt, eearAt, esrAt, linkAt, linkAddressAt, modeAt, machiAt, macloAt, picmrAt, picsrAt, halted, running}
 use Rattle.effect.specs.declared.types.Inputs.{Inputs}
 use Rattle.effect.specs.declared.types.Board.{Board}
 use Rattle.effect.specs.declared.types.Flow.{Flow}
@@ -37,6 +37,10 @@ pub record LawfulLink (l : Link) : Type 0 where
   pub address-multiple : Multiple (l .address)
   pub no-address : l .held ≡ 0 → l .address ≡ 0
 
+-- document 02, note 4, of PICMR: "its bits 0 and 1 always 1"
+abbrev pub Mask : ℕ → Type 0
+Mask x = x % 4 ≡ 3
+
 -- "41: mode, 0 halted or 3 running."
 pub data Mode : ℕ → Type 0 where
   is-halted : Mode halted
@@ -51,6 +55,7 @@ pub record LawfulState (board : Board) (core : ℕ) (g : ℕ → ℕ) : Type 0 w
   pub epcr-lawful : Multiple (g epcrAt)
   pub esr-lawful : Status (g esrAt)
   pub mode-lawful : Mode (g modeAt)
+  pub mask-lawful : Mask (g picmrAt)
 
 -- what an instruction reads obeys the rules, and its destination is a register
 pub record LawfulInputs (x : Inputs) : Type 0 where
@@ -61,22 +66,25 @@ pub record LawfulInputs (x : Inputs) : Type 0 where
   pub epcr-lawful : Multiple (x .epcr)
   pub esr-lawful : Status (x .esr)
 
--- the word that an effect writes at a place: a register, EPCR, EEAR, ESR, or MACHI or MACLO, which are free
-pub data LawfulWord : ℕ → ℕ → Type 0 where
-  to-register : {place v : ℕ} → Register place → LawfulWord place v
-  to-epcr : {v : ℕ} → Multiple v → LawfulWord epcrAt v
-  to-eear : {v : ℕ} → LawfulWord eearAt v
-  to-esr : {v : ℕ} → Status v → LawfulWord esrAt v
-  to-machi : {v : ℕ} → LawfulWord machiAt v
-  to-maclo : {v : ℕ} → LawfulWord macloAt v
+-- the word that an effect writes at a place: a register, EPCR, EEAR, ESR, PICMR; MACHI or MACLO, which are free; or PICSR, which was picsr: "a write to it
+-- keeps the bits set in it and in the value" (document 02, note 4), so that it never grows
+pub data LawfulWord (picsr : ℕ) : ℕ → ℕ → Type 0 where
+  to-register : {place v : ℕ} → Register place → LawfulWord picsr place v
+  to-epcr : {v : ℕ} → Multiple v → LawfulWord picsr epcrAt v
+  to-eear : {v : ℕ} → LawfulWord picsr eearAt v
+  to-esr : {v : ℕ} → Status v → LawfulWord picsr esrAt v
+  to-machi : {v : ℕ} → LawfulWord picsr machiAt v
+  to-maclo : {v : ℕ} → LawfulWord picsr macloAt v
+  to-picmr : {v : ℕ} → Mask v → LawfulWord picsr picmrAt v
+  to-picsr : {v : ℕ} → v ≤ picsr → LawfulWord picsr picsrAt v
 
 pub data LawfulOutcome : Outcome → Type 0 where
   completes : LawfulOutcome Completed
   raised : {x : Exception} → Multiple (x .epcr) → Status (x .esr) → LawfulOutcome (Raised x)
 
--- all that an effect names obeys the rules (the vector of an exception, where PC goes at the commit, is a multiple of 4 by the table)
-pub record Lawful (e : Effect) : Type 0 where
-  pub word-lawful : LawfulWord (e .place) (e .value)
+-- all that an effect on a state with that PICSR names obeys the rules (the vector of an exception, where PC goes at the commit, is a multiple of 4 by the table)
+pub record Lawful (picsr : ℕ) (e : Effect) : Type 0 where
+  pub word-lawful : LawfulWord picsr (e .place) (e .value)
   pub flow-lawful : LawfulFlow (e .flow)
   pub link-lawful : LawfulLink (e .link)
   pub sr-lawful : Status (e .sr)

@@ -8,21 +8,21 @@ use lib.Dec.{T, eqb, leb, ltb, lit<}
 use lib.ListN.{length, getD, replicate, length-replicate}
 use Rattle.bits.proofs.Tests.{and-left, and-right, and-both, T-of}
 use Rattle.arith.specs.Status.{allowed, only}
-use Rattle.effect.specs.State.{stateWords, pcAt, delayAt, targetAt, srAt, epcrAt, esrAt, linkAt, linkAddressAt, modeAt}
+use Rattle.effect.specs.State.{stateWords, pcAt, delayAt, targetAt, srAt, epcrAt, esrAt, linkAt, linkAddressAt, modeAt, picmrAt}
 use Rattle.effect.specs.declared.types.Board.{Board}
 use Rattle.commit.specs.Commit.{wordAt, coreCount}
 use Rattle.lawful.specs.Inner.{Mode, is-running}
 use Rattle.lawful.specs.Accepted.{accepted}
 use Rattle.lawful.proofs.Accepted.{means-accepted}
 use Rattle.refusal.specs.Lent.{boardOf}
-use Rattle.refusal.specs.Refusal.{everyFrom, memoryFits, statesFit, statesObey, maxSchedule, scheduleFits, namesCores, cacheFits, entryRight, entriesRight, fastRefusal}
+use Rattle.refusal.specs.Refusal.{everyFrom, memoryFits, statesFit, statesObey, maxSchedule, scheduleFits, namesCores, levelsFit, cacheFits, entryRight, entriesRight, fastRefusal}
 use Rattle.refusal.proofs.Tests.{of-below}
 use Rattle.refusal.proofs.Passes.{none-refused}
 use Rattle.card.specs.Card.{Job, every}
 use Rattle.card.specs.Answer.{Sound}
 use Rattle.job.specs.Job.{memoryOf, resetSR, resetState, resetStates}
 use Rattle.job.proofs.Laws.{length-memory, length-states, word-reset as reset-word, length-entries, every-entry}
-use Rattle.play.specs.Output.{statesOf, scheduleOf, emptyCache, lentBy}
+use Rattle.play.specs.Output.{statesOf, scheduleOf, levelsOf, emptyCache, lentBy}
 
 equal : (m n : ℕ) → m ≡ n → T (eqb m n)
 equal m n e = T-of (eqb m n) (eq-eqb m n e)
@@ -52,6 +52,7 @@ module _ (entry n : ℕ) (h : entry % 4 ≡ 0) where
       let link : wordAt (resetStates entry n) core linkAt ≡ 0 = word-reset entry n core linkAt g (lit< tt) in
       let address : wordAt (resetStates entry n) core linkAddressAt ≡ 0 = word-reset entry n core linkAddressAt g (lit< tt) in
       let mode : wordAt (resetStates entry n) core modeAt ≡ 3 = word-reset entry n core modeAt g (lit< tt) in
+      let picmr : wordAt (resetStates entry n) core picmrAt ≡ 3 = word-reset entry n core picmrAt g (lit< tt) in
       means-accepted board (resetStates entry n) core
       (record {
         zero-register = w0;
@@ -61,6 +62,7 @@ module _ (entry n : ℕ) (h : entry % 4 ≡ 0) where
         epcr-lawful = ap (λ (x : ℕ). x % 4) epcr;
         esr-lawful = subst (λ (x : ℕ). allowed x ≡ x) (sym esr) allowed-reset;
         mode-lawful = subst Mode (sym mode) is-running;
+        mask-lawful = ap (λ (x : ℕ). x % 4) picmr;
       })
 
   reset-obeys : (board : Board) → T (statesObey board (resetStates entry n))
@@ -84,7 +86,7 @@ unfolding everyFrom
 empty-right board mem zero i = tt
 empty-right board mem (suc n) i = empty-right board mem n (i + 1)
 
--- ---- the seven tests
+-- ---- the tests
 
 below : (m n : ℕ) → m ≤ n → T (leb m n)
 below m n h = T-of (leb m n) (le-leb m n h)
@@ -102,7 +104,7 @@ states-fit n m l h =
 
 module _ (j : Job) (h : Sound j) where
   pub job-accepted : fastRefusal (lentBy j) (emptyCache j) ≡ 0
-  unfolding scheduleFits namesCores cacheFits entriesRight
+  unfolding scheduleFits namesCores levelsFit cacheFits entriesRight
   job-accepted =
       let m : length (memoryOf j) ≡ j .memory = length-memory j in
       let s : length (statesOf j) ≡ j .cores * stateWords = length-states (j .entry) (j .cores) in
@@ -117,6 +119,7 @@ module _ (j : Job) (h : Sound j) where
         schedule-fits = below (length (scheduleOf j)) maxSchedule (omega (arith, h .steps-high));
         names-cores =
             rw c (every-from (j .cores) (scheduleOf j) 0 (every-entry (λ d. ltb d (j .cores)) (j .schedule) (j .steps) (omega (arith, h .digits-low)) (h .cores-named)));
+        levels-fit = equal (length (levelsOf j)) (length (scheduleOf j)) (length-replicate (j .steps) 0 ∙ sym n);
       })
       (record {
         cache-fits = equal (length (emptyCache j)) (length (memoryOf j) / 4) e;

@@ -1,4 +1,4 @@
--- What a good card's run is lent: the first parts of four arrays. Assumes nothing.
+-- What a good card's run is lent: the first parts of five arrays. Assumes nothing.
 use mathlib.Core.Path.{_≡_, ap, _∙_}
 use mathlib.Core.List.{List}
 use Prim.Native.Nat.{ℕ, _*_, _/_, _≤_}
@@ -9,12 +9,13 @@ use Rattle.effect.specs.State.{stateWords}
 use Rattle.text.proofs.Stores.{take-sets}
 use Rattle.refusal.specs.Lent.{Lent, lent}
 use Rattle.refusal.specs.Refusal.{fastRefusal}
+use Rattle.card.specs.Card.{maxSteps}
 use Rattle.card.specs.Answer.{jobAt, scheduleAt}
 use Rattle.card.specs.declared.Job.{Job}
 use Rattle.card.proofs.Bounds.{says-sound}
 use Rattle.job.specs.Job.{imageLength, memoryOf, entries, resetStates}
 use Rattle.job.proofs.Laws.{length-states, length-entries}
-use Rattle.play.specs.Output.{statesOf, scheduleOf, emptyCache, lentBy, runText, jobText}
+use Rattle.play.specs.Output.{statesOf, scheduleOf, levelsOf, emptyCache, lentBy, runText, jobText}
 use Rattle.play.specs.Inner.{Ready}
 use Rattle.play.proofs.Parts.{take-replicate}
 use Rattle.play.proofs.Accepted.{job-accepted}
@@ -39,19 +40,22 @@ module _ (card : List ℕ) (j : Job) (image s₀ s t₀ t : List ℕ) (r : Ready
       let n = length-entries (scheduleAt card j) (j .steps) in
       ap (take (j .steps)) et ∙ take-sets t₀ (scheduleOf (jobAt card j)) (omega arith) (j .steps) n
 
+  levels-part : take (j .steps) (replicate maxSteps 0) ≡ levelsOf (jobAt card j)
+  levels-part = take-replicate (j .steps) maxSteps 0 (let b = r .bounds .sound .steps-high in omega arith)
+
   cache-part : take (j .memory / 4) (replicate cacheWords 0) ≡ emptyCache (jobAt card j)
   cache-part = take-replicate (j .memory / 4) cacheWords 0 (let b = r .bounds .sound .memory-high in omega arith)
 
   -- what the run is lent
   abbrev parts : Lent
-  parts = lent (take (j .memory) image) (take (j .cores * stateWords) s) (take (j .steps) t)
+  parts = lent (take (j .memory) image) (take (j .cores * stateWords) s) (take (j .steps) t) (take (j .steps) (replicate maxSteps 0))
 
   abbrev cache : List ℕ
   cache = take (j .memory / 4) (replicate cacheWords 0)
 
   -- a run of these parts is the job's
   as-lent : {A : Type 0} (f : Lent → List ℕ → A) → f parts cache ≡ f (lentBy (jobAt card j)) (emptyCache (jobAt card j))
-  as-lent f = rw (memory-part, states-part, schedule-part, cache-part)
+  as-lent f = rw (memory-part, states-part, schedule-part, levels-part, cache-part)
 
   pub lent-accepted : fastRefusal parts cache ≡ 0
   lent-accepted = as-lent fastRefusal ∙ job-accepted (jobAt card j) (says-sound card (jobAt card j) (r .says))

@@ -18,6 +18,10 @@ statesOf j = resetStates (j .entry) (j .cores)
 abbrev pub scheduleOf : Job → List ℕ
 scheduleOf j = entries (j .schedule) (j .steps)
 
+-- Document 02, note 4: "the card runner gives all lines low"
+abbrev pub levelsOf : Job → List ℕ
+levelsOf j = replicate (j .steps) 0
+
 -- "an empty table", the decode cache: "one 64-bit entry for each memory word. 0 is empty."
 abbrev pub emptyCache : Job → List ℕ
 emptyCache j = replicate (j .memory / 4) 0
@@ -31,7 +35,7 @@ runText l cache = resultText (runCounts l cache) (plainRun l .states)
 
 -- what a good card's run is lent
 abbrev pub lentBy : Job → Lent
-lentBy j = lent (memoryOf j) (statesOf j) (scheduleOf j)
+lentBy j = lent (memoryOf j) (statesOf j) (scheduleOf j) (levelsOf j)
 
 unfoldable pub jobText : Job → List ℕ
 jobText j = runText (lentBy j) (emptyCache j)

@@ -41,21 +41,22 @@ fn print_run(
     memory: &mut [u8],
     states: &mut [u32],
     schedule: &[u8],
+    levels: &[u32],
     cache: &mut [u64],
     out: &mut [u8],
 ) -> Written
-    requires { ⌜ fastRefusal (lent (now memory) (now states) (now schedule)) (now cache) ≡ 0 ⌝ }
+    requires { ⌜ fastRefusal (lent (now memory) (now states) (now schedule) (now levels)) (now cache) ≡ 0 ⌝ }
     requires { ⌜ outputRoom ≤ length (now out) ⌝ }
-    ensures { λ r. ⌜ Printed (runText (lent (now (memory .entry)) (now (states .entry)) (now (schedule .entry))) (now (cache .entry))) (now (out .entry)) (now (out .exit)) r ⌝ }
+    ensures { λ r. ⌜ Printed (runText (lent (now (memory .entry)) (now (states .entry)) (now (schedule .entry)) (now (levels .entry))) (now (cache .entry))) (now (out .entry)) (now (out .exit)) r ⌝ }
 {
-    match engine::fast::fast_run(memory, states, schedule, cache) {
+    match engine::fast::fast_run(memory, states, schedule, levels, cache) {
         Answer::Ran(counts) => report::write_result(out, counts, states),
         // Cannot be: what a good card asks for is accepted.
         Answer::Refused(_) => Written::TooSmall,
     }
 }
 
-// A good card's job, with its memory laid out in the image: the run starts from an empty decode cache.
+// A good card's job, with its memory laid out in the image: all lines are low, and the run starts from an empty decode cache.
 fn print_job(card: &[u8], job: Job, image: &mut [u8], out: &mut [u8]) -> Written
     requires { ⌜ Ready (now card) job (now image) ⌝ }
     requires { ⌜ outputRoom ≤ length (now out) ⌝ }
@@ -63,6 +64,7 @@ fn print_job(card: &[u8], job: Job, image: &mut [u8], out: &mut [u8]) -> Written
 {
     let mut states = [0u32; STATES];
     let mut schedule = [0u8; STEPS];
+    let levels = [0u32; STEPS];
     let mut cache = [0u64; MEMORY_WORDS];
     job::reset(&mut states, job.cores, job.entry);
     job::schedule(card, job, &mut schedule);
@@ -74,6 +76,7 @@ fn print_job(card: &[u8], job: Job, image: &mut [u8], out: &mut [u8]) -> Written
         &mut image[..memory],
         &mut states[..words],
         &schedule[..steps],
+        &levels[..steps],
         &mut cache[..entries],
         out,
     )

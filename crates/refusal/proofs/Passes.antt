@@ -11,9 +11,9 @@ use Rattle.bits.proofs.Cases.{by-equality}
 use Rattle.effect.specs.State.{stateWords}
 use Rattle.commit.specs.Commit.{coreCount}
 use Rattle.refusal.specs.Lent.{Lent, boardOf}
-use Rattle.refusal.specs.Refusal.{memoryFits, statesFit, statesObey, scheduleFits, namesCores, cacheFits, entriesRight, runRules, cacheRules, firstBroken, plainRefusal, fastRefusal, refusalNumber}
+use Rattle.refusal.specs.Refusal.{memoryFits, statesFit, statesObey, scheduleFits, namesCores, levelsFit, cacheFits, entriesRight, runRules, cacheRules, firstBroken, plainRefusal, fastRefusal, refusalNumber}
 use Rattle.refusal.specs.declared.cause.Refusal.{Refusal}
-use Rattle.refusal.specs.declared.cause.Refusal.the-variants.{MemoryLength, StatesLength, StateRule, ScheduleLength, NoSuchCore, CacheLength, CacheEntry}
+use Rattle.refusal.specs.declared.cause.Refusal.the-variants.{MemoryLength, StatesLength, StateRule, ScheduleLength, NoSuchCore, LevelsLength, CacheLength, CacheEntry}
 use Rattle.refusal.proofs.Tests.{each-passes, none-broken, broken-before, broken-after}
 
 -- what both runs accept
@@ -23,6 +23,7 @@ pub record Passes (l : Lent) : Type 0 where
   pub states-obey : T (statesObey (boardOf l) (l .states))
   pub schedule-fits : T (scheduleFits (length (l .schedule)))
   pub names-cores : T (namesCores (coreCount (l .states)) (l .schedule))
+  pub levels-fit : T (levelsFit (length (l .schedule)) (length (l .levels)))
 
 -- and the fast run, of the decode cache
 pub record CachePasses (l : Lent) (cache : List ℕ) : Type 0 where
@@ -34,36 +35,36 @@ module _ (l : Lent) where
   unfolding plainRefusal
   plain-passes z =
       let t = each-passes (runRules l) tt z in
-      record { memory-fits = t .0; states-fit = t .1 .0; states-obey = t .1 .1 .0; schedule-fits = t .1 .1 .1 .0; names-cores = t .1 .1 .1 .1 .0 }
+      record { memory-fits = t .0; states-fit = t .1 .0; states-obey = t .1 .1 .0; schedule-fits = t .1 .1 .1 .0; names-cores = t .1 .1 .1 .1 .0; levels-fit = t .1 .1 .1 .1 .1 .0 }
 
   none-broken-of : Passes l → plainRefusal l ≡ 0
   unfolding plainRefusal
-  none-broken-of p = none-broken (runRules l) (p .memory-fits, (p .states-fit, (p .states-obey, (p .schedule-fits, (p .names-cores, tt)))))
+  none-broken-of p = none-broken (runRules l) (p .memory-fits, (p .states-fit, (p .states-obey, (p .schedule-fits, (p .names-cores, (p .levels-fit, tt))))))
 
   module _ (cache : List ℕ) where
     -- what the fast run accepts the plain run accepts
     pub fast-then-plain : fastRefusal l cache ≡ 0 → plainRefusal l ≡ 0
     unfolding plainRefusal fastRefusal
     fast-then-plain z =
-        by-equality (firstBroken (runRules l)) 0 (λ q. q) (λ n. absurd (n (sym (broken-before (runRules l) (cacheRules l cache) n) ∙ z)))
+        by-equality (firstBroken (runRules l)) 0 (λ q. q) (λ n. absurd (n (sym (broken-before (runRules l) (cacheRules (boardOf l) (l .memory) cache) n) ∙ z)))
 
     -- the rules on the cache come after the others
-    pub then-cache : plainRefusal l ≡ 0 → firstBroken (cacheRules l cache) ≡ fastRefusal l cache
+    pub then-cache : plainRefusal l ≡ 0 → firstBroken (cacheRules (boardOf l) (l .memory) cache) ≡ fastRefusal l cache
     unfolding plainRefusal fastRefusal
-    then-cache z = sym (broken-after (runRules l) (cacheRules l cache) tt z)
+    then-cache z = sym (broken-after (runRules l) (cacheRules (boardOf l) (l .memory) cache) tt z)
 
     pub before-cache : (plainRefusal l ≡ 0 → ⊥) → plainRefusal l ≡ fastRefusal l cache
     unfolding plainRefusal fastRefusal
-    before-cache n = sym (broken-before (runRules l) (cacheRules l cache) n)
+    before-cache n = sym (broken-before (runRules l) (cacheRules (boardOf l) (l .memory) cache) n)
 
     pub cache-passes : fastRefusal l cache ≡ 0 → CachePasses l cache
     cache-passes z =
-        let t = each-passes (cacheRules l cache) tt (then-cache (fast-then-plain z) ∙ z) in
+        let t = each-passes (cacheRules (boardOf l) (l .memory) cache) tt (then-cache (fast-then-plain z) ∙ z) in
         record { cache-fits = t .0; entries-right = t .1 .0 }
 
     pub none-refused : Passes l → CachePasses l cache → fastRefusal l cache ≡ 0
     none-refused p c =
-        sym (then-cache (none-broken-of p)) ∙ none-broken (cacheRules l cache) (c .cache-fits, (c .entries-right, tt))
+        sym (then-cache (none-broken-of p)) ∙ none-broken (cacheRules (boardOf l) (l .memory) cache) (c .cache-fits, (c .entries-right, tt))
 
 -- ---- the numbers
 
@@ -73,6 +74,7 @@ cause-number StatesLength h = omega arith
 cause-number StateRule h = omega arith
 cause-number ScheduleLength h = omega arith
 cause-number NoSuchCore h = omega arith
+cause-number LevelsLength h = omega arith
 cause-number CacheLength h = omega arith
 cause-number CacheEntry h = omega arith
 

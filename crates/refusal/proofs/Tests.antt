@@ -10,19 +10,15 @@ use borrow.Author.Tests.{ltb-true, ltb-false}
 use lib.ListN.{length, getD, take, drop, drop-of-length-le}
 use lib.Seq.{drop-cons}
 use Rattle.bits.specs.Choice.{if_then_else_}
-use Rattle.bits.proofs.Tests.{and-left, and-right, and-both}
+use Rattle.bits.proofs.Tests.{and-left, and-right, and-both, of-T}
 use Rattle.bits.proofs.Cases.{by-equality}
-use Rattle.effect.specs.State.{stateWords, pcAt, delayAt, targetAt, srAt, epcrAt, esrAt, linkAt, linkAddressAt, modeAt, all, rules}
+use Rattle.effect.specs.State.{stateWords, pcAt, delayAt, targetAt, srAt, epcrAt, esrAt, linkAt, linkAddressAt, modeAt, picmrAt, all, rules}
 use Rattle.effect.specs.declared.types.Board.{Board}
 use Rattle.commit.specs.Commit.{wordAt}
 use Rattle.commit.proofs.Own.{mid-word}
 use Rattle.commit.specs.Inner.{ownWord}
 use Rattle.refusal.specs.Refusal.{Rule, everyBelow, everyFrom, firstBroken}
 use Rattle.refusal.specs.Inner.{greatest}
-
-of-T : (b : Bool) → T b → b ≡ true
-of-T true t = refl
-of-T false t = absurd t
 
 pub and-true : (b : Bool) → b && true ≡ b
 and-true true = refl
@@ -35,10 +31,6 @@ and-false false = refl
 -- a rule that passes before others
 pub pass : {a : Bool} → a ≡ true → (l : List Bool) → all l ≡ all (a ∷ l)
 pass p l = rw p
-
--- the last of some rules
-pub last : {a b : Bool} → a ≡ b → a ≡ all (b ∷ [])
-last {a} {b} p = p ∙ sym (and-true b)
 
 -- ---- every number below n
 
@@ -201,4 +193,5 @@ part-rules board s core h n q =
       word linkAt (omega arith),
       word linkAddressAt (omega arith),
       word modeAt (omega arith),
+      word picmrAt (omega arith),
     )

@@ -1,4 +1,5 @@
--- What a run is lent and what it leaves: document 01, "What is lent". The decode cache (the paper's table), which the fast run alone is lent,
+-- What a run is lent and what it leaves: document 01, "What is lent"; document 02, note 4: "Runs take, beside the schedule, one 32-bit word of line
+-- levels for each entry." The decode cache (the paper's table), which the fast run alone is lent,
 -- stands beside it.
 use mathlib.Core.List.{List}
 use Prim.Native.Nat.{ℕ}
@@ -9,9 +10,10 @@ pub record Lent : Type 0 where
   pub memory : List ℕ
   pub states : List ℕ
   pub schedule : List ℕ
+  pub levels : List ℕ
 
-abbrev pub lent : List ℕ → List ℕ → List ℕ → Lent
-lent mem s schedule = record { memory = mem; states = s; schedule = schedule }
+abbrev pub lent : List ℕ → List ℕ → List ℕ → List ℕ → Lent
+lent mem s schedule levels = record { memory = mem; states = s; schedule = schedule; levels = levels }
 
 -- memory and states afterwards
 pub record Left : Type 0 where

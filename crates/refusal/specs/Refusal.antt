@@ -1,4 +1,4 @@
--- What a run refuses (the paper's "turned back"): document 01, "What is lent" and "Turned back".
+-- What a run refuses (the paper's "turned back"): document 01, "What is lent" and "Turned back"; document 02, note 4.
 use mathlib.Core.Bool.{Bool, true, _&&_, _||_}
 use mathlib.Core.List.{List, [], _∷_, _++_}
 use Prim.Native.Nat.{ℕ, zero, suc, _+_, _/_, _%_}
@@ -12,7 +12,7 @@ use Rattle.decode_cache.specs.Cache.{formAt}
 use Rattle.lawful.specs.Accepted.{accepted}
 use Rattle.refusal.specs.Lent.{Lent, boardOf}
 use Rattle.refusal.specs.declared.cause.Refusal.{Refusal}
-use Rattle.refusal.specs.declared.cause.Refusal.the-variants.{MemoryLength, StatesLength, StateRule, ScheduleLength, NoSuchCore, CacheLength, CacheEntry}
+use Rattle.refusal.specs.declared.cause.Refusal.the-variants.{MemoryLength, StatesLength, StateRule, ScheduleLength, NoSuchCore, LevelsLength, CacheLength, CacheEntry}
 use Rattle.refusal.specs.declared.cause.Verdict.{Verdict}
 use Rattle.refusal.specs.declared.cause.Verdict.the-variants.{Accepted, Refused}
 
@@ -30,7 +30,7 @@ everyFrom f i (x ∷ l) = f i x && everyFrom f (i + 1) l
 unfoldable pub memoryFits : ℕ → Bool
 memoryFits len = leb 4096 len && (leb len 1048576 && eqb (len % 4) 0)
 
--- "32-bit words for each of 1 to 4 cores." Document 02, note 2: "Sheets grow to 44 words".
+-- "32-bit words for each of 1 to 4 cores." Document 02, note 4: "46 words in all".
 unfoldable pub statesFit : ℕ → Bool
 statesFit len = eqb (len % stateWords) 0 && (leb 1 (len / stateWords) && leb (len / stateWords) 4)
 
@@ -47,6 +47,10 @@ scheduleFits len = leb len maxSchedule
 
 unfoldable pub namesCores : ℕ → List ℕ → Bool
 namesCores cores schedule = everyFrom (λ i core. ltb core cores) 0 schedule
+
+-- Document 02, note 4: "a level list whose length is not the schedule's" is turned back
+unfoldable pub levelsFit : ℕ → ℕ → Bool
+levelsFit schedule levels = eqb levels schedule
 
 -- "Table (fast run only): one 64-bit entry for each memory word."
 unfoldable pub cacheFits : ℕ → ℕ → Bool
@@ -67,7 +71,7 @@ pub record Rule : Type 0 where
 abbrev pub rule : ℕ → Bool → Rule
 rule number passes = record { number = number; passes = passes }
 
--- "Runs test 1 to 7 in this order (plain 1 to 5)": the rules of both runs, and those on the decode cache, in the order tested
+-- "Runs test 1 to 7 in this order"; document 02, note 4: "with 11, after 5": the rules of both runs, and those on the decode cache, in the order tested
 abbrev pub runRules : Lent → List Rule
 runRules l =
     rule 1 (memoryFits (length (l .memory))) ∷
@@ -75,12 +79,13 @@ runRules l =
     rule 3 (statesObey (boardOf l) (l .states)) ∷
     rule 4 (scheduleFits (length (l .schedule))) ∷
     rule 5 (namesCores (coreCount (l .states)) (l .schedule)) ∷
+    rule 11 (levelsFit (length (l .schedule)) (length (l .levels))) ∷
     []
 
-abbrev pub cacheRules : Lent → List ℕ → List Rule
-cacheRules l cache =
-    rule 6 (cacheFits (length (l .memory)) (length cache)) ∷
-    rule 7 (entriesRight (boardOf l) (l .memory) cache) ∷
+abbrev pub cacheRules : Board → List ℕ → List ℕ → List Rule
+cacheRules board mem cache =
+    rule 6 (cacheFits (length mem) (length cache)) ∷
+    rule 7 (entriesRight board mem cache) ∷
     []
 
 -- the number of the first rule that is broken; 0 if none is
@@ -92,7 +97,7 @@ unfoldable pub plainRefusal : Lent → ℕ
 plainRefusal l = firstBroken (runRules l)
 
 unfoldable pub fastRefusal : Lent → List ℕ → ℕ
-fastRefusal l cache = firstBroken (runRules l ++ cacheRules l cache)
+fastRefusal l cache = firstBroken (runRules l ++ cacheRules (boardOf l) (l .memory) cache)
 
 -- the paper's number of each cause
 abbrev pub refusalNumber : Refusal → ℕ
@@ -101,6 +106,7 @@ refusalNumber StatesLength = 2
 refusalNumber StateRule = 3
 refusalNumber ScheduleLength = 4
 refusalNumber NoSuchCore = 5
+refusalNumber LevelsLength = 11
 refusalNumber CacheLength = 6
 refusalNumber CacheEntry = 7
 

@@ -10,6 +10,7 @@ pub enum Refusal {
     StateRule,
     ScheduleLength,
     NoSuchCore,
+    LevelsLength,
     CacheLength,
     CacheEntry,
 }
@@ -20,7 +21,7 @@ pub enum Verdict {
     Refused(Refusal),
 }
 
-// Document 01's number of a refusal; four bits hold every one.
+// The documents' number of a refusal; four bits hold every one.
 pub fn number(cause: Refusal) -> u64
     ensures { λ r. ⌜ (r ≡ refusalNumber cause) × (r < 16) ⌝ }
 {
@@ -30,6 +31,7 @@ pub fn number(cause: Refusal) -> u64
         Refusal::StateRule => 3,
         Refusal::ScheduleLength => 4,
         Refusal::NoSuchCore => 5,
+        Refusal::LevelsLength => 11,
         Refusal::CacheLength => 6,
         Refusal::CacheEntry => 7,
     }

@@ -1,7 +1,6 @@
-// What a run is lent is tested before it runs, in the order of document 01's refusals.
-ghost use mathlib.Core.List.{List};
+// What a run is lent is tested before it runs, in the order of the documents' refusals.
 ghost use mathlib.Core.Path.{_≡_};
-ghost use Prim.Native.Nat.{ℕ};
+ghost use Rattle.effect.specs.declared.types.Board.{Board};
 ghost use Rattle.refusal.specs.Lent.{lent};
 ghost use Rattle.refusal.specs.Refusal.{memoryFits, statesFit, cacheRules, firstBroken, plainRefusal, fastRefusal, verdictNumber};
 use crate::cause::Refusal;
@@ -37,9 +36,9 @@ fn states_fit(len: usize) -> bool
     len / state::STATE_WORDS <= 4
 }
 
-// Refusals 1 to 5, which both runs have.
-pub fn check(memory: &[u8], states: &[u32], schedule: &[u8]) -> Verdict
-    ensures { λ r. ⌜ verdictNumber r ≡ plainRefusal (lent (now (memory .entry)) (now (states .entry)) (now (schedule .entry))) ⌝ }
+// Refusals 1 to 5 and 11, which both runs have.
+pub fn check(memory: &[u8], states: &[u32], schedule: &[u8], levels: &[u32]) -> Verdict
+    ensures { λ r. ⌜ verdictNumber r ≡ plainRefusal (lent (now (memory .entry)) (now (states .entry)) (now (schedule .entry)) (now (levels .entry))) ⌝ }
 {
     if !memory_fits(memory.len()) {
         return Verdict::Refused(Refusal::MemoryLength);
@@ -56,12 +55,15 @@ pub fn check(memory: &[u8], states: &[u32], schedule: &[u8]) -> Verdict
     if !schedule::names_cores(schedule, states.len() / state::STATE_WORDS) {
         return Verdict::Refused(Refusal::NoSuchCore);
     }
+    if levels.len() != schedule.len() {
+        return Verdict::Refused(Refusal::LevelsLength);
+    }
     Verdict::Accepted
 }
 
 // Refusals 6 and 7, on the decode cache.
 fn check_cache(memory: &[u8], cache: &[u64]) -> Verdict
-    ensures { λ r. ⌜ ((s schedule : List ℕ) → verdictNumber r ≡ firstBroken (cacheRules (lent (now (memory .entry)) s schedule) (now (cache .entry)))) ⌝ }
+    ensures { λ r. ⌜ ((board : Board) → verdictNumber r ≡ firstBroken (cacheRules board (now (memory .entry)) (now (cache .entry)))) ⌝ }
 {
     if cache.len() != memory.len() / 4 {
         return Verdict::Refused(Refusal::CacheLength);
@@ -72,11 +74,17 @@ fn check_cache(memory: &[u8], cache: &[u64]) -> Verdict
     Verdict::Accepted
 }
 
-// All seven.
-pub fn check_fast(memory: &[u8], states: &[u32], schedule: &[u8], cache: &[u64]) -> Verdict
-    ensures { λ r. ⌜ verdictNumber r ≡ fastRefusal (lent (now (memory .entry)) (now (states .entry)) (now (schedule .entry))) (now (cache .entry)) ⌝ }
+// All of them.
+pub fn check_fast(
+    memory: &[u8],
+    states: &[u32],
+    schedule: &[u8],
+    levels: &[u32],
+    cache: &[u64],
+) -> Verdict
+    ensures { λ r. ⌜ verdictNumber r ≡ fastRefusal (lent (now (memory .entry)) (now (states .entry)) (now (schedule .entry)) (now (levels .entry))) (now (cache .entry)) ⌝ }
 {
-    let verdict = check(memory, states, schedule);
+    let verdict = check(memory, states, schedule, levels);
     match verdict {
         Verdict::Accepted => check_cache(memory, cache),
         Verdict::Refused(cause) => Verdict::Refused(cause),

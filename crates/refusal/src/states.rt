@@ -30,7 +30,7 @@ fn is_mode(mode: u32) -> bool
     mode == 3
 }
 
-// The rules on SR and ESR, the last two.
+// The rules on SR, ESR and PICMR, the last three.
 fn status_obeys(own: &[u32]) -> bool
     requires { ⌜ stateWords ≤ length (now own) ⌝ }
     ensures { λ r. ⌜ ((board : Board) (core : ℕ) → r ≡ all (drop 10 (rules board core (ownWord (now (own .entry)))))) ⌝ }
@@ -40,7 +40,10 @@ fn status_obeys(own: &[u32]) -> bool
         return false;
     }
     let esr = own[state::ESR];
-    arith::keep_allowed(esr) == esr
+    if arith::keep_allowed(esr) != esr {
+        return false;
+    }
+    own[state::PICMR] % 4 == 3
 }
 
 // These, and the rules on addresses.

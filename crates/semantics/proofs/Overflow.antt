@@ -23,6 +23,8 @@ immediateAsB x = record {
   esr = x .esr;
   link = x .link;
   accumulator = x .accumulator;
+  picmr = x .picmr;
+  picsr = x .picsr;
 }
 
 module _ (board : Board) (mem : List ℕ) (x : Inputs) where

@@ -8,21 +8,23 @@ use lib.ListN.{length, getD, set, length-set}
 use lib.Seq.{getD-set-same, getD-set-other}
 use borrow.Author.Tests.{eq-eqb, ne-eqb}
 use Rattle.bits.specs.Choice.{if_then_else_}
-use Rattle.bits.proofs.Cases.{by-equality}
+use Rattle.bits.proofs.Cases.{if-both, by-equality}
 use Rattle.isa.specs.InstructionSet.{decode}
 use Rattle.memory.specs.Memory.{memoryWord}
 use Rattle.effect.specs.Effect.{raises}
 use Rattle.effect.specs.declared.types.Board.{Board}
 use Rattle.effect.specs.declared.types.Effect.{Effect}
-use Rattle.commit.specs.Commit.{fetchFault, writesMemory, touched, memoryAfter}
+use Rattle.commit.specs.Commit.{writesMemory, touched, memoryAfter}
 use Rattle.decode_cache.proofs.Forms.{decode-filled, form-filled, filled-inside}
 use Rattle.decode_cache.specs.Cache.{formAt, filled, cachedForm}
 use Rattle.semantics.specs.Meaning.{effectOf}
 use Rattle.lawful.specs.Inner.{Sound}
 use Rattle.lawful.proofs.Instruction.{effect-sound, no-store-kept, other-words-kept}
-use Rattle.steps.specs.Plain.{Plain, isRunning, isInside, fetched, plainEffect, plainAfter, plainStep}
-use Rattle.steps.specs.Fast.{Fast, emptied, fastFetch, fastFault, fastStep}
-use Rattle.steps.specs.History.{History, cachedAtFirst, historyFetch, historyStep}
+use Rattle.pic.specs.Interrupt.{isInterrupted}
+use Rattle.steps.specs.Plain.{Plain, isRunning, latching, fetched, isFetch, unfetched, plainEffect, plainAfter, plainEntry, plainStep}
+use Rattle.steps.specs.Fast.{Fast, emptied, fastFetch, fastUnfetched, fastEntry, fastLatching, fastStep}
+use Rattle.steps.specs.History.{History, cachedAtFirst, historyFetch, historyEntry, historyStep}
+use Rattle.steps.specs.declared.Scheduled.{Scheduled}
 use Rattle.steps.specs.Inner.{Right, historyOf}
 
 -- ---- what is cached
@@ -103,15 +105,15 @@ right-emptied board mem c e sound r = go (writesMemory e) refl
 -- ---- one entry
 
 -- "for every entry that some word decodes to, its outcome is that form's, also where memory holds another word there": no fact on the cache is asked
-pub entry-as-it-stands : (board : Board) (x : Fast) (core w : ℕ) → isRunning (x .plain .states) core ≡ true
-    → isInside (x .plain .memory) (x .plain .states) core ≡ true → getD (x .cache) (fetched (x .plain .states) core) 0 ≡ decode w
-    → fastStep board x core .plain ≡ plainAfter (x .plain) core (effectOf board (x .plain .memory) (x .plain .states) core (decode w))
-unfolding fastStep fastFetch
-entry-as-it-stands board x core w r i e = rw (r, i, e, ne-eqb (decode w) 0 (decode-filled w))
+pub entry-as-it-stands : (board : Board) (x : Fast) (core w : ℕ) → isFetch (x .plain .memory) (x .plain .states) core ≡ true
+    → getD (x .cache) (fetched (x .plain .states) core) 0 ≡ decode w
+    → fastEntry board x core .plain ≡ plainAfter (x .plain) core (effectOf board (x .plain .memory) (x .plain .states) core (decode w))
+unfolding fastEntry fastFetch
+entry-as-it-stands board x core w i e = rw (i, e, ne-eqb (decode w) 0 (decode-filled w))
 
-fault-stores : (s : List ℕ) (core : ℕ) → writesMemory (fetchFault s core) ≡ false
-unfolding raises
-fault-stores s core = refl
+unfetched-stores : (s : List ℕ) (core : ℕ) → writesMemory (unfetched s core) ≡ false
+unfolding unfetched raises
+unfetched-stores s core = if-both (λ (e : Effect). writesMemory e ≡ false) (isInterrupted s core) refl refl
 
 -- what is left is the plain run's p, and goes with the history h
 pub record Agrees (board : Board) (y : Fast) (p : Plain) (h : History) : Type 0 where
@@ -138,46 +140,55 @@ module _ (board : Board) (x : Fast) (core : ℕ) (right : Right board (x .cache)
         right-again = right-emptied board (x .plain .memory) (set (x .cache) k f) e sound (right-filled board (x .plain .memory) (x .cache) k right);
       }
 
-  module _ (inside : isInside (x .plain .memory) (x .plain .states) core ≡ true) where
-    effect-inside : plainEffect board (x .plain .memory) (x .plain .states) core
+  module _ (fetches : isFetch (x .plain .memory) (x .plain .states) core ≡ true) where
+    effect-fetched : plainEffect board (x .plain .memory) (x .plain .states) core
         ≡ effectOf board (x .plain .memory) (x .plain .states) core (formAt board (x .plain .memory) (fetched (x .plain .states) core))
     unfolding plainEffect
-    effect-inside = rw inside
+    effect-fetched = rw fetches
 
     fetch-agrees : Agrees board
         (fastFetch board x core (fetched (x .plain .states) core)
         (effectOf board (x .plain .memory) (x .plain .states) core (cachedForm board (x .plain .memory) (x .cache) (fetched (x .plain .states) core))))
-        (plainAfter (x .plain) core (plainEffect board (x .plain .memory) (x .plain .states) core))
+        (plainEntry board (x .plain) core)
         (historyFetch board (x .plain) (historyOf x) core)
-    unfolding fastFetch historyFetch
+    unfolding fastFetch plainEntry historyFetch
     fetch-agrees =
         let k = fetched (x .plain .states) core in
-        rw (effect-inside, cached-form board (x .plain .memory) (x .cache) k right)
+        rw (effect-fetched, cached-form board (x .plain .memory) (x .cache) k right)
         (done-agrees k (effectOf board (x .plain .memory) (x .plain .states) core (formAt board (x .plain .memory) k))
         (effect-sound board (x .plain .memory) (x .plain .states) core (formAt board (x .plain .memory) k)))
 
-  fault-agrees : isInside (x .plain .memory) (x .plain .states) core ≡ false →
-      Agrees board (fastFault x core) (plainAfter (x .plain) core (plainEffect board (x .plain .memory) (x .plain .states) core)) (historyOf x)
-  unfolding fastFault plainEffect plainAfter
-  fault-agrees outside =
-      let e = fetchFault (x .plain .states) core in
-      rw outside (record {
+  unfetched-agrees : isFetch (x .plain .memory) (x .plain .states) core ≡ false → Agrees board (fastUnfetched x core) (plainEntry board (x .plain) core) (historyOf x)
+  unfolding fastUnfetched plainEntry plainEffect plainAfter
+  unfetched-agrees none =
+      let e = unfetched (x .plain .states) core in
+      rw none (record {
         same-plain = refl;
         same-history = refl;
-        right-again = rw (no-store-kept (x .plain .memory) e (fault-stores (x .plain .states) core)) right;
+        right-again = rw (no-store-kept (x .plain .memory) e (unfetched-stores (x .plain .states) core)) right;
       })
 
-  by-tests : (a b : Bool) → isInside (x .plain .memory) (x .plain .states) core ≡ b → Agrees board
-      (if a then
+  by-fetch : (b : Bool) → isFetch (x .plain .memory) (x .plain .states) core ≡ b → Agrees board
       (if b then fastFetch board x core (fetched (x .plain .states) core)
       (effectOf board (x .plain .memory) (x .plain .states) core (cachedForm board (x .plain .memory) (x .cache) (fetched (x .plain .states) core)))
-      else fastFault x core) else x)
-      (if a then plainAfter (x .plain) core (plainEffect board (x .plain .memory) (x .plain .states) core) else x .plain)
-      (if a then (if b then historyFetch board (x .plain) (historyOf x) core else historyOf x) else historyOf x)
-  by-tests true true e = fetch-agrees e
-  by-tests true false e = fault-agrees e
-  by-tests false b e = record { same-plain = refl; same-history = refl; right-again = right }
+      else fastUnfetched x core)
+      (plainEntry board (x .plain) core)
+      (if b then historyFetch board (x .plain) (historyOf x) core else historyOf x)
+  by-fetch true e = fetch-agrees e
+  by-fetch false e = unfetched-agrees e
 
-  pub step-agrees : Agrees board (fastStep board x core) (plainStep board (x .plain) core) (historyStep board (x .plain) (historyOf x) core)
+  entry-agrees : Agrees board (fastEntry board x core) (plainEntry board (x .plain) core) (historyEntry board (x .plain) (historyOf x) core)
+  unfolding fastEntry historyEntry
+  entry-agrees = by-fetch (isFetch (x .plain .memory) (x .plain .states) core) refl
+
+module _ (board : Board) (x : Fast) (entry : Scheduled) (right : Right board (x .cache) (x .plain .memory)) where
+  by-running : (a : Bool) → Agrees board
+      (if a then fastEntry board (fastLatching x entry) (entry .core) else x)
+      (if a then plainEntry board (latching (x .plain) entry) (entry .core) else x .plain)
+      (if a then historyEntry board (latching (x .plain) entry) (historyOf x) (entry .core) else historyOf x)
+  by-running true = entry-agrees board (fastLatching x entry) (entry .core) right
+  by-running false = record { same-plain = refl; same-history = refl; right-again = right }
+
+  pub step-agrees : Agrees board (fastStep board x entry) (plainStep board (x .plain) entry) (historyStep board (x .plain) (historyOf x) entry)
   unfolding fastStep plainStep historyStep
-  step-agrees = by-tests (isRunning (x .plain .states) core) (isInside (x .plain .memory) (x .plain .states) core) refl
+  step-agrees = by-running (isRunning (x .plain .states) (entry .core))

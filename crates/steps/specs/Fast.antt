@@ -1,4 +1,4 @@
--- The fast run's entries: document 01, "Fast run". They are defined for every decode cache (the paper's table): also where an entry is not its
+-- The fast run's entries: document 01, "Fast run"; document 02, note 4. They are defined for every decode cache (the paper's table): also where an entry is not its
 -- word's form, which refusal 7 keeps out of runs, and for an empty cache, with which they are the plain run's.
 use mathlib.Core.List.{List, [], _∷_}
 use Prim.Native.Nat.{ℕ, _+_}
@@ -6,13 +6,15 @@ use lib.ListN.{getD, set}
 use Rattle.bits.specs.Choice.{if_then_else_}
 use Rattle.effect.specs.declared.types.Board.{Board}
 use Rattle.effect.specs.declared.types.Effect.{Effect}
-use Rattle.commit.specs.Commit.{fetchFault, writesMemory, touched, raisedBy}
+use Rattle.commit.specs.Commit.{writesMemory, touched, raisedBy}
 use Rattle.decode_cache.specs.Cache.{filled, cachedForm}
 use Rattle.semantics.specs.Meaning.{effectOf}
-use Rattle.steps.specs.Plain.{Plain, isRunning, isInside, fetched, plainAfter}
+use Rattle.pic.specs.Interrupt.{latched}
+use Rattle.steps.specs.Plain.{Plain, isRunning, latching, fetched, isFetch, unfetched, plainAfter}
 use Rattle.steps.specs.declared.counts.Counts.{Counts}
+use Rattle.steps.specs.declared.Scheduled.{Scheduled}
 use Rattle.steps.specs.declared.Turn.{Turn}
-use Rattle.steps.specs.declared.Turn.the-variants.{Idle, FetchFault, Instruction}
+use Rattle.steps.specs.declared.Turn.the-variants.{Idle, Unfetched, Instruction}
 
 -- what a fast run has come to: what a plain run has, the decode cache, and the count of fetches that found their entry filled
 pub record Fast : Type 0 where
@@ -33,34 +35,43 @@ fastFetch board x core k e = record {
 }
 
 -- "No entry changes otherwise."
-unfoldable pub fastFault : Fast → ℕ → Fast
-fastFault x core = record { plain = plainAfter (x .plain) core (fetchFault (x .plain .states) core); cache = x .cache; reused = x .reused }
+unfoldable pub fastUnfetched : Fast → ℕ → Fast
+fastUnfetched x core = record { plain = plainAfter (x .plain) core (unfetched (x .plain .states) core); cache = x .cache; reused = x .reused }
 
-unfoldable pub fastStep : Board → Fast → ℕ → Fast
-fastStep board x core =
+-- the entry of a running core whose lines are latched
+unfoldable pub fastEntry : Board → Fast → ℕ → Fast
+fastEntry board x core =
     let mem = x .plain .memory in
     let s = x .plain .states in
     let k = fetched s core in
-    if isRunning s core then
-    (if isInside mem s core then fastFetch board x core k (effectOf board mem s core (cachedForm board mem (x .cache) k)) else fastFault x core) else
-    x
+    if isFetch mem s core then fastFetch board x core k (effectOf board mem s core (cachedForm board mem (x .cache) k)) else
+    fastUnfetched x core
 
--- "A step ends in a completed instruction or in one exception": what the entry of a core hands up to the run
+abbrev pub fastLatching : Fast → Scheduled → Fast
+fastLatching x entry = record { plain = latching (x .plain) entry; cache = x .cache; reused = x .reused }
+
+unfoldable pub fastStep : Board → Fast → Scheduled → Fast
+fastStep board x entry = if isRunning (x .plain .states) (entry .core) then fastEntry board (fastLatching x entry) (entry .core) else x
+
+-- "A step ends in a completed instruction or in one exception": what the entry of a running core whose lines are latched hands up to the run
 unfoldable pub turnOf : Board → List ℕ → List ℕ → List ℕ → ℕ → Turn
 turnOf board mem s cache core =
     let k = fetched s core in
-    if isRunning s core then
-    (if isInside mem s core then Instruction (effectOf board mem s core (cachedForm board mem cache k) .outcome) (filled (getD cache k 0)) else
-    FetchFault (fetchFault s core .outcome)) else
-    Idle
+    if isFetch mem s core then Instruction (effectOf board mem s core (cachedForm board mem cache k) .outcome) (filled (getD cache k 0)) else
+    Unfetched (unfetched s core .outcome)
+
+-- the same of any entry
+unfoldable pub stepTurn : Board → List ℕ → List ℕ → List ℕ → Scheduled → Turn
+stepTurn board mem s cache entry =
+    if isRunning s (entry .core) then turnOf board mem (latched s (entry .core) (entry .lines)) cache (entry .core) else Idle
 
 -- what the run makes of it: "executed (entries of running cores), raised (those that took an exception), reused"
 abbrev pub countsAfter : Counts → Turn → Counts
 countsAfter n Idle = n
-countsAfter n (FetchFault o) = record { executed = n .executed + 1; raised = n .raised + raisedBy o; reused = n .reused }
+countsAfter n (Unfetched o) = record { executed = n .executed + 1; raised = n .raised + raisedBy o; reused = n .reused }
 countsAfter n (Instruction o u) = record { executed = n .executed + 1; raised = n .raised + raisedBy o; reused = n .reused + u }
 
 -- "The schedule's entries go in order, each on what the last left."
-unfoldable pub fastFrom : Board → List ℕ → Fast → Fast
+unfoldable pub fastFrom : Board → List Scheduled → Fast → Fast
 fastFrom board [] x = x
-fastFrom board (core ∷ schedule) x = fastFrom board schedule (fastStep board x core)
+fastFrom board (entry ∷ more) x = fastFrom board more (fastStep board x entry)

@@ -1,4 +1,4 @@
--- The history of the plain run, for the decode cache (the paper's table) lent to the fast one: document 01, "History". Cached is the paper's
+-- The history of the plain run, for the decode cache (the paper's table) lent to the fast one: document 01, "History"; document 02, note 4. Cached is the paper's
 -- held.
 use mathlib.Core.List.{List, [], _∷_}
 use Prim.Native.Nat.{ℕ, _+_}
@@ -8,8 +8,9 @@ use Rattle.bits.specs.Choice.{if_then_else_}
 use Rattle.effect.specs.declared.types.Board.{Board}
 use Rattle.decode_cache.specs.Cache.{formAt, filled}
 use Rattle.refusal.specs.Lent.{Lent, boardOf}
-use Rattle.steps.specs.Plain.{Plain, isRunning, isInside, fetched, plainEffect, plainStep, start}
+use Rattle.steps.specs.Plain.{Plain, scheduledBy, isRunning, latching, fetched, isFetch, plainEffect, plainStep, start}
 use Rattle.steps.specs.Fast.{emptied}
+use Rattle.steps.specs.declared.Scheduled.{Scheduled}
 
 -- cached: 1 or 0 for each memory word; reused: "counts the fetches whose word was held just before"
 pub record History : Type 0 where
@@ -28,18 +29,19 @@ historyFetch board p h core = record {
   reused = h .reused + getD (h .cached) (fetched (p .states) core) 0;
 }
 
--- one entry, on what the plain run had come to
-unfoldable pub historyStep : Board → Plain → History → ℕ → History
-historyStep board p h core =
-    if isRunning (p .states) core then (if isInside (p .memory) (p .states) core then historyFetch board p h core else h) else
-    h
+-- one entry, on what the plain run had come to; what is no fetch, an interrupt or one outside memory, makes no word held
+unfoldable pub historyEntry : Board → Plain → History → ℕ → History
+historyEntry board p h core = if isFetch (p .memory) (p .states) core then historyFetch board p h core else h
 
-unfoldable pub historyFrom : Board → List ℕ → Plain → History → History
+unfoldable pub historyStep : Board → Plain → History → Scheduled → History
+historyStep board p h entry = if isRunning (p .states) (entry .core) then historyEntry board (latching p entry) h (entry .core) else h
+
+unfoldable pub historyFrom : Board → List Scheduled → Plain → History → History
 historyFrom board [] p h = h
-historyFrom board (core ∷ schedule) p h = historyFrom board schedule (plainStep board p core) (historyStep board p h core)
+historyFrom board (entry ∷ more) p h = historyFrom board more (plainStep board p entry) (historyStep board p h entry)
 
 unfoldable pub history : Lent → List ℕ → History
-history l cache = historyFrom (boardOf l) (l .schedule) (start l) (record { cached = cachedAtFirst cache; reused = 0 })
+history l cache = historyFrom (boardOf l) (scheduledBy l) (start l) (record { cached = cachedAtFirst cache; reused = 0 })
 
 -- "After the fast run a held word's entry is the form of what memory now holds there, any other 0": the entries of the words from k on
 unfoldable pub entriesFrom : Board → ℕ → List ℕ → List ℕ → List ℕ

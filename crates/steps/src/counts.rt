@@ -34,7 +34,7 @@ pub fn counted(counts: Counts, turn: Turn) -> Counts
 {
     match turn {
         Turn::Idle => counts,
-        Turn::FetchFault(outcome) => Counts {
+        Turn::Unfetched(outcome) => Counts {
             executed: counts.executed + 1,
             raised: counts.raised + raised_by(outcome),
             reused: counts.reused,

@@ -1,12 +1,14 @@
 // One loop for both runs: the entries of a schedule, with a decode cache that may be empty.
+ghost use mathlib.Core.Bool.{false};
 ghost use mathlib.Core.Path.{_≡_};
 ghost use Prim.Native.Nat.{_+_, _*_, _%_, _≤_, _<_};
 ghost use lib.ListN.{length};
-ghost use Rattle.effect.specs.State.{stateWords, pcAt, modeAt, running};
+ghost use Rattle.effect.specs.State.{stateWords, pcAt, modeAt};
 ghost use Rattle.commit.specs.Commit.{wordAt};
 ghost use Rattle.decode_cache.specs.Inner.{Backed};
+ghost use Rattle.pic.specs.Interrupt.{isInterrupted};
 ghost use Rattle.refusal.specs.Lent.{lent};
-ghost use Rattle.steps.specs.Inner.{Runnable, Stepped, Finished};
+ghost use Rattle.steps.specs.Inner.{Runnable, Undisturbed, begun, startOf, straightMode, Entered, Stepped, Finished};
 use crate::counts::Counts;
 use effect::state;
 use effect::types::Board;
@@ -15,17 +17,23 @@ use effect::types::Outcome;
 pub mod counts;
 pub mod index;
 
+// An entry of the schedule: its core, and the levels of the lines.
+pub struct Scheduled {
+    pub core: usize,
+    pub lines: u32,
+}
+
 // What an entry of the schedule comes to.
 pub enum Turn {
     // Its core is not running.
     Idle,
-    // Its fetch is outside memory: how the step ends.
-    FetchFault(Outcome),
+    // No word is fetched, since an interrupt is taken or PC is outside memory: how the step ends.
+    Unfetched(Outcome),
     // A word is fetched: how its instruction ends, and 1 if its entry was filled.
     Instruction(Outcome, u32),
 }
 
-// One instruction of a running core: how it ends. A filled entry of the cache is executed as it stands, whatever word memory holds there.
+// One instruction of a running core that is not interrupted: how it ends. A filled entry of the cache is executed as it stands, whatever word memory holds there.
 fn instruction(
     board: Board,
     memory: &mut [u8],
@@ -35,16 +43,16 @@ fn instruction(
 ) -> Turn
     requires { ⌜ core * stateWords + stateWords ≤ length (now states) ⌝ }
     requires { ⌜ core < 4 ⌝ }
-    requires { ⌜ wordAt (now states) core modeAt ≡ running ⌝ }
+    requires { ⌜ isInterrupted (now states) core ≡ false ⌝ }
     requires { ⌜ Backed (now cache) (now memory) ⌝ }
     requires { ⌜ wordAt (now states) core pcAt % 4 ≡ 0 ⌝ }
-    ensures { λ r. ⌜ Stepped board (now (memory .entry)) (now (states .entry)) (now (cache .entry)) core (now (memory .exit)) (now (states .exit)) (now (cache .exit)) r ⌝ }
+    ensures { λ r. ⌜ Entered board (now (memory .entry)) (now (states .entry)) (now (cache .entry)) core (now (memory .exit)) (now (states .exit)) (now (cache .exit)) r ⌝ }
 {
     let base = core * state::STATE_WORDS;
     let pc = crate::index::of_u32(states[base + state::PC]);
     let f = decode_cache::fetch(memory, cache, pc);
     if f.entry == 0 {
-        return Turn::FetchFault(exec::fetch_fault(states, core));
+        return Turn::Unfetched(exec::fetch_fault(states, core));
     }
     let done = exec::execute(board, memory, states, core, f.entry);
     decode_cache::empty_touched(cache, done);
@@ -52,35 +60,84 @@ fn instruction(
     Turn::Instruction(outcome, f.reused)
 }
 
+// How an entry of the schedule begins: its core is not running, is interrupted, or fetches.
+pub enum Start {
+    Idle,
+    Interrupt,
+    Fetch,
+}
+
+// Latches the lines of a running core. One in the mode `straight` runs and nothing can interrupt it, so most entries need no test but that of the mode.
+fn begin(states: &mut [u32], entry: Scheduled, straight: u32) -> Start
+    requires { ⌜ entry .core * stateWords + stateWords ≤ length (now states) ⌝ }
+    requires { ⌜ (wordAt (now states) (entry .core) modeAt ≡ straight → Undisturbed (now states) entry) ⌝ }
+    ensures { λ r. ⌜ (now (states .exit) ≡ begun (now (states .entry)) entry) × (r ≡ startOf (now (states .entry)) entry) ⌝ }
+{
+    let mode = states[entry.core * state::STATE_WORDS + state::MODE];
+    if mode == straight {
+        return Start::Fetch;
+    }
+    if mode != state::RUNNING {
+        return Start::Idle;
+    }
+    if pic::latch(states, entry.core, entry.lines) {
+        return Start::Interrupt;
+    }
+    Start::Fetch
+}
+
 // One entry of the schedule.
-pub fn step(
+fn step(
     board: Board,
     memory: &mut [u8],
     states: &mut [u32],
     cache: &mut [u64],
-    core: usize,
+    entry: Scheduled,
+    straight: u32,
 ) -> Turn
-    requires { ⌜ core * stateWords + stateWords ≤ length (now states) ⌝ }
-    requires { ⌜ core < 4 ⌝ }
+    requires { ⌜ entry .core * stateWords + stateWords ≤ length (now states) ⌝ }
+    requires { ⌜ entry .core < 4 ⌝ }
     requires { ⌜ Backed (now cache) (now memory) ⌝ }
-    requires { ⌜ wordAt (now states) core pcAt % 4 ≡ 0 ⌝ }
-    ensures { λ r. ⌜ Stepped board (now (memory .entry)) (now (states .entry)) (now (cache .entry)) core (now (memory .exit)) (now (states .exit)) (now (cache .exit)) r ⌝ }
+    requires { ⌜ wordAt (now states) (entry .core) pcAt % 4 ≡ 0 ⌝ }
+    requires { ⌜ (wordAt (now states) (entry .core) modeAt ≡ straight → Undisturbed (now states) entry) ⌝ }
+    ensures { λ r. ⌜ Stepped board (now (memory .entry)) (now (states .entry)) (now (cache .entry)) entry (now (memory .exit)) (now (states .exit)) (now (cache .exit)) r ⌝ }
 {
-    if states[core * state::STATE_WORDS + state::MODE] != state::RUNNING {
-        return Turn::Idle;
+    match begin(states, entry, straight) {
+        Start::Idle => Turn::Idle,
+        Start::Interrupt => Turn::Unfetched(pic::take(states, entry.core)),
+        Start::Fetch => instruction(board, memory, states, cache, entry.core),
     }
-    instruction(board, memory, states, cache, core)
+}
+
+// A mode that no core has.
+const NO_MODE: u32 = 4;
+
+// The mode whose cores nothing can interrupt while these levels last: running, or none.
+fn straight_mode(states: &[u32], levels: &[u32]) -> u32
+    ensures { λ r. ⌜ r ≡ straightMode (now (states .entry)) (now (levels .entry)) ⌝ }
+{
+    if pic::quiet(states, levels) {
+        return state::RUNNING;
+    }
+    NO_MODE
 }
 
 // The schedule's entries, in order. Both runs share this loop: exec::execute has one caller, so the compiler inlines it there.
-pub fn run(memory: &mut [u8], states: &mut [u32], schedule: &[u8], cache: &mut [u64]) -> Counts
-    requires { ⌜ Runnable (lent (now memory) (now states) (now schedule)) (now cache) ⌝ }
-    ensures { λ r. ⌜ Finished (lent (now (memory .entry)) (now (states .entry)) (now (schedule .entry))) (now (cache .entry)) (now (memory .exit)) (now (states .exit)) (now (cache .exit)) r ⌝ }
+pub fn run(
+    memory: &mut [u8],
+    states: &mut [u32],
+    schedule: &[u8],
+    levels: &[u32],
+    cache: &mut [u64],
+) -> Counts
+    requires { ⌜ Runnable (lent (now memory) (now states) (now schedule) (now levels)) (now cache) ⌝ }
+    ensures { λ r. ⌜ Finished (lent (now (memory .entry)) (now (states .entry)) (now (schedule .entry)) (now (levels .entry))) (now (cache .entry)) (now (memory .exit)) (now (states .exit)) (now (cache .exit)) r ⌝ }
 {
     let cores = states.len() / state::STATE_WORDS;
     let board = Board {
         cores: cores as u32,
     };
+    let straight = straight_mode(states, levels);
     let mut counts = Counts {
         executed: 0,
         raised: 0,
@@ -88,8 +145,11 @@ pub fn run(memory: &mut [u8], states: &mut [u32], schedule: &[u8], cache: &mut [
     };
     let mut i = 0;
     while i < schedule.len() {
-        let core = crate::index::of_u8(schedule[i]);
-        let turn = step(board, memory, states, cache, core);
+        let entry = Scheduled {
+            core: crate::index::of_u8(schedule[i]),
+            lines: levels[i],
+        };
+        let turn = step(board, memory, states, cache, entry, straight);
         counts = counts::counted(counts, turn);
         i += 1;
     }

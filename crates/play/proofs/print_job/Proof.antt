@@ -70,17 +70,27 @@ slice-aggregate-print-run-3 c =
     let b = s .before .before .before .before .before .before .before .before .pre .0 .bounds in
     sym (length-take-le _ (s .schedule2 .last .1 .1 .0) (omega arith))
 
-array-borrow-prefix-cache : tie.Need-array-borrow-prefix-cache
-array-borrow-prefix-cache c = let b = c .before .before .before .before .before .before .before .before .before .before .before .before .before .before .before .pre .0 .bounds in omega arith
+array-share-prefix-levels : tie.Need-array-share-prefix-levels
+array-share-prefix-levels c =
+    let b = c .before .before .before .before .before .before .before .before .before .before .before .before .before .before .before .pre .0 .bounds in
+    omega (arith, b .sound .steps-high, length-zeros maxSteps)
 
 slice-aggregate-print-run-4 : tie.Need-slice-aggregate-print-run-4
 slice-aggregate-print-run-4 c =
     let b = c .before .before .before .before .before .before .before .before .before .before .before .before .before .before .before .before .pre .0 .bounds in
+    sym (length-take-le _ (replicate maxSteps 0) (omega (arith, b .sound .steps-high, length-zeros maxSteps)))
+
+array-borrow-prefix-cache : tie.Need-array-borrow-prefix-cache
+array-borrow-prefix-cache c = let b = c .before .before .before .before .before .before .before .before .before .before .before .before .before .before .before .before .pre .0 .bounds in omega arith
+
+slice-aggregate-print-run-5 : tie.Need-slice-aggregate-print-run-5
+slice-aggregate-print-run-5 c =
+    let b = c .before .before .before .before .before .before .before .before .before .before .before .before .before .before .before .before .before .pre .0 .bounds in
     sym (length-take-le _ (replicate cacheWords 0) (omega arith))
 
 print-run-requires : tie.Need-print-run-requires
 print-run-requires c κs =
-    let t = c .before .before .before .before .before .before .before .before .before in
+    let t = c .before .before .before .before .before .before .before .before .before .before in
     let s = t .before .before .before in
     let start = s .before .before .before .before .before in
     let a = start .args in
@@ -95,7 +105,7 @@ same-length-2 c = search needs
 
 returns : tie.Need-returns
 returns c =
-    let t = c .before .before .before .before .before .before .before .before .before .before .before .before .before .before .before .before in
+    let t = c .before .before .before .before .before .before .before .before .before .before .before .before .before .before .before .before .before in
     let s = t .before .before .before in
     let start = s .before .before .before .before .before in
     let a = start .args in
@@ -121,8 +131,10 @@ print-job-spec =
     slice-aggregate-print-run-2
     array-share-prefix-schedule
     slice-aggregate-print-run-3
-    array-borrow-prefix-cache
+    array-share-prefix-levels
     slice-aggregate-print-run-4
+    array-borrow-prefix-cache
+    slice-aggregate-print-run-5
     print-run-requires
     same-length
     same-length-2

@@ -1,10 +1,10 @@
 use mathlib.Core.Path.{sym, _∙_}
 use denote.Ref.{now}
-use borrow.Author.Tests.{le-leb, lt-leb, not-true, not-false}
+use borrow.Author.Tests.{eq-eqb, ne-eqb, le-leb, lt-leb, not-true, not-false}
 use lib.ListN.{length}
 use Prim.Native.Nat.{_/_}
 use Rattle.effect.specs.State.{stateWords}
-use Rattle.refusal.specs.Refusal.{scheduleFits, firstBroken, plainRefusal}
+use Rattle.refusal.specs.Refusal.{scheduleFits, levelsFit, firstBroken, plainRefusal}
 use Rattle.refusal.proofs.Passes.{few-cores}
 use borrow.Author.Needs.{needs}
 use Rattle.refusal.proofs.check.Statement.{statement}
@@ -27,12 +27,12 @@ returns-2 c =
 
 states-accepted-requires : tie.Need-states-accepted-requires
 states-accepted-requires c κs =
-    few-cores (length (now (c .before .before .before .before .before .before .before .args .states))) (sym (c .before .states-fit .ensures) ∙ not-false _ (c .if2 .left)) .1
+    few-cores (length (now (c .before .before .before .before .before .before .before .before .args .states))) (sym (c .before .states-fit .ensures) ∙ not-false _ (c .if2 .left)) .1
 
 returns-3 : tie.Need-returns-3
 unfolding plainRefusal firstBroken scheduleFits
 returns-3 c =
-    let s = now (c .before .before .before .before .before .before .before .before .before .args .states) in
+    let s = now (c .before .before .before .before .before .before .before .before .before .before .args .states) in
     let memory = sym (c .before .before .before .before .before .memory-fits .ensures) ∙ not-false _ (c .before .before .before .before .if1 .left) in
     let states = sym (c .before .before .before .states-fit .ensures) ∙ not-false _ (c .before .before .if2 .left) in
     simp (memory, states, sym (c .before .states-accepted .ensures (record { cores = length s / stateWords })) ∙ not-true _ (c .if3 .taken))
@@ -40,7 +40,7 @@ returns-3 c =
 returns-4 : tie.Need-returns-4
 unfolding plainRefusal firstBroken scheduleFits
 returns-4 c =
-    let s = now (c .before .before .before .before .before .before .before .before .before .before .args .states) in
+    let s = now (c .before .before .before .before .before .before .before .before .before .before .before .args .states) in
     let memory = sym (c .before .before .before .before .before .before .memory-fits .ensures) ∙ not-false _ (c .before .before .before .before .before .if1 .left) in
     let states = sym (c .before .before .before .before .states-fit .ensures) ∙ not-false _ (c .before .before .before .if2 .left) in
     let obeyed = sym (c .before .before .states-accepted .ensures (record { cores = length s / stateWords })) ∙ not-false _ (c .before .if3 .left) in
@@ -49,25 +49,36 @@ returns-4 c =
 names-cores-requires : tie.Need-names-cores-requires
 names-cores-requires c κs =
     let states = sym (c .before .before .before .before .states-fit .ensures) ∙ not-false _ (c .before .before .before .if2 .left) in
-    few-cores (length (now (c .before .before .before .before .before .before .before .before .before .before .args .states))) states .0
+    few-cores (length (now (c .before .before .before .before .before .before .before .before .before .before .before .args .states))) states .0
 
 returns-5 : tie.Need-returns-5
 unfolding plainRefusal firstBroken scheduleFits
 returns-5 c =
-    let s = now (c .before .before .before .before .before .before .before .before .before .before .before .before .args .states) in
+    let s = now (c .before .before .before .before .before .before .before .before .before .before .before .before .before .args .states) in
     let memory = sym (c .before .before .before .before .before .before .before .before .memory-fits .ensures) ∙ not-false _ (c .before .before .before .before .before .before .before .if1 .left) in
     let states = sym (c .before .before .before .before .before .before .states-fit .ensures) ∙ not-false _ (c .before .before .before .before .before .if2 .left) in
     let obeyed = sym (c .before .before .before .before .states-accepted .ensures (record { cores = length s / stateWords })) ∙ not-false _ (c .before .before .before .if3 .left) in
     simp (memory, states, obeyed, le-leb _ _ (c .before .before .if4 .left), sym (c .before .names-cores .ensures) ∙ not-true _ (c .if5 .taken))
 
 returns-6 : tie.Need-returns-6
-unfolding plainRefusal firstBroken scheduleFits
+unfolding plainRefusal firstBroken scheduleFits levelsFit
 returns-6 c =
-    let s = now (c .before .before .before .before .before .before .before .before .before .before .before .before .args .states) in
-    let memory = sym (c .before .before .before .before .before .before .before .before .memory-fits .ensures) ∙ not-false _ (c .before .before .before .before .before .before .before .if1 .left) in
-    let states = sym (c .before .before .before .before .before .before .states-fit .ensures) ∙ not-false _ (c .before .before .before .before .before .if2 .left) in
-    let obeyed = sym (c .before .before .before .before .states-accepted .ensures (record { cores = length s / stateWords })) ∙ not-false _ (c .before .before .before .if3 .left) in
-    simp (memory, states, obeyed, le-leb _ _ (c .before .before .if4 .left), sym (c .before .names-cores .ensures) ∙ not-false _ (c .if5 .left))
+    let s = now (c .before .before .before .before .before .before .before .before .before .before .before .before .before .before .args .states) in
+    let memory = sym (c .before .before .before .before .before .before .before .before .before .memory-fits .ensures) ∙ not-false _ (c .before .before .before .before .before .before .before .before .if1 .left) in
+    let states = sym (c .before .before .before .before .before .before .before .states-fit .ensures) ∙ not-false _ (c .before .before .before .before .before .before .if2 .left) in
+    let obeyed = sym (c .before .before .before .before .before .states-accepted .ensures (record { cores = length s / stateWords })) ∙ not-false _ (c .before .before .before .before .if3 .left) in
+    let named = sym (c .before .before .names-cores .ensures) ∙ not-false _ (c .before .if5 .left) in
+    simp (memory, states, obeyed, le-leb _ _ (c .before .before .before .if4 .left), named, ne-eqb _ _ (c .if6 .taken))
+
+returns-7 : tie.Need-returns-7
+unfolding plainRefusal firstBroken scheduleFits levelsFit
+returns-7 c =
+    let s = now (c .before .before .before .before .before .before .before .before .before .before .before .before .before .before .args .states) in
+    let memory = sym (c .before .before .before .before .before .before .before .before .before .memory-fits .ensures) ∙ not-false _ (c .before .before .before .before .before .before .before .before .if1 .left) in
+    let states = sym (c .before .before .before .before .before .before .before .states-fit .ensures) ∙ not-false _ (c .before .before .before .before .before .before .if2 .left) in
+    let obeyed = sym (c .before .before .before .before .before .states-accepted .ensures (record { cores = length s / stateWords })) ∙ not-false _ (c .before .before .before .before .if3 .left) in
+    let named = sym (c .before .before .names-cores .ensures) ∙ not-false _ (c .before .if5 .left) in
+    simp (memory, states, obeyed, le-leb _ _ (c .before .before .before .if4 .left), named, eq-eqb _ _ (c .if6 .left))
 
 pub check-spec : {M : Type 1} → statement M
 check-spec =
@@ -82,4 +93,5 @@ check-spec =
     returns-4
     names-cores-requires
     returns-5
-    returns-6)
+    returns-6
+    returns-7)

@@ -7,9 +7,9 @@ use Rattle.decode_cache.specs.declared.Fetched.{Fetched}
 use Rattle.decode_cache.proofs.Fetches.{found-inside, found-outside}
 use Rattle.semantics.specs.Meaning.{effectOf}
 use Rattle.exec.proofs.Executes.{executed-as}
-use Rattle.steps.specs.declared.Turn.the-variants.{FetchFault}
-use Rattle.steps.specs.Inner.{Stepped}
-use Rattle.steps.proofs.Cases.{fast-outside, fast-inside}
+use Rattle.steps.specs.declared.Turn.the-variants.{Unfetched}
+use Rattle.steps.specs.Inner.{Entered}
+use Rattle.steps.proofs.Cases.{entered-outside, entered-inside}
 use borrow.Author.Needs.{needs}
 use Rattle.steps.proofs.instruction.Statement.{statement}
 use Rattle.steps.proofs.instruction.Tie as tie
@@ -53,9 +53,9 @@ returns c =
     let out = found-outside (a .board) (now (a .memory)) (now (a .cache)) (pc .result) (fetch .0) (fetch .1) (c .before .before .before .before .if1 .taken) in
     let fault = c .before .before .fetch-fault in
     let mem = now (a .memory) in
-    let left : List ℕ → Type 0 = λ (l : List ℕ). Stepped (a .board) mem (now (a .states)) (now (a .cache)) (a .core) mem (fault .last .0) l (FetchFault (fault .result)) in
+    let left : List ℕ → Type 0 = λ (l : List ℕ). Entered (a .board) mem (now (a .states)) (now (a .cache)) (a .core) mem (fault .last .0) l (Unfetched (fault .result)) in
     subst left (sym (out .cache))
-    (fast-outside (a .board) mem (now (a .states)) (now (a .cache)) (a .core) (p .1 .1 .0) (omega (arith, out .outside, pc .ensures .0)) (fault .ensures mem))
+    (entered-outside (a .board) mem (now (a .states)) (now (a .cache)) (a .core) (p .1 .1 .0) (omega (arith, out .outside, pc .ensures .0)) (fault .ensures mem))
 
 execute-requires : tie.Need-execute-requires
 execute-requires c κs = search needs
@@ -85,7 +85,7 @@ returns-2 c =
     let entry = ap (λ (f : Fetched). f .entry) (in-memory .found) in
     let e = executed-as (ap (effectOf (a .board) mem (now (a .states)) (a .core)) entry) (c .before .before .before .before .before .before .before .before .execute .ensures) in
     let k = ap (λ (p : ℕ). p / 4) (pc .ensures .0) in
-    fast-inside (a .board) mem (now (a .states)) cache (a .core) _ k (p .1 .1 .0) (omega (arith, in-memory .inside, pc .ensures .0)) (in-memory .cache) e
+    entered-inside (a .board) mem (now (a .states)) cache (a .core) _ k (p .1 .1 .0) (omega (arith, in-memory .inside, pc .ensures .0)) (in-memory .cache) e
     (c .before .before .empty-touched .ensures) (ap (λ (f : Fetched). f .reused) (in-memory .found))
 
 pub instruction-spec : {M : Type 1} → statement M

@@ -37,7 +37,15 @@ returns-8 c = rw (c .match .keys8)
 
 returns-9 : tie.Need-returns-9
 unfolding specialRegister
-returns-9 c = let r = c .match .rest in let q = r .0 .0 in
+returns-9 c = rw (c .match .keys9)
+
+returns-10 : tie.Need-returns-10
+unfolding specialRegister
+returns-10 c = rw (c .match .keys10)
+
+returns-11 : tie.Need-returns-11
+unfolding specialRegister
+returns-11 c = let r = c .match .rest in let q = r .0 .0 in
     simp (
       ne-eqb _ _ (r .1),
       ne-eqb _ _ (r .0 .1),
@@ -47,7 +55,9 @@ returns-9 c = let r = c .match .rest in let q = r .0 .0 in
       ne-eqb _ _ (q .0 .0 .0 .1),
       ne-eqb _ _ (q .0 .0 .0 .0 .1),
       ne-eqb _ _ (q .0 .0 .0 .0 .0 .1),
+      ne-eqb _ _ (q .0 .0 .0 .0 .0 .0 .1),
+      ne-eqb _ _ (q .0 .0 .0 .0 .0 .0 .0 .1),
     )
 
 pub read-spec : {M : Type 1} → statement M
-read-spec = tie.close (tie.spec returns returns-2 returns-3 returns-4 returns-5 returns-6 returns-7 returns-8 returns-9)
+read-spec = tie.close (tie.spec returns returns-2 returns-3 returns-4 returns-5 returns-6 returns-7 returns-8 returns-9 returns-10 returns-11)

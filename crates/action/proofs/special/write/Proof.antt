@@ -43,8 +43,20 @@ written-requires-5 c κs = search needs
 cast-written-5 : tie.Need-cast-written-5
 cast-written-5 c = search needs
 
+cast-written-6 : tie.Need-cast-written-6
+cast-written-6 c = search needs
+
 written-requires-6 : tie.Need-written-requires-6
 written-requires-6 c κs = search needs
+
+written-requires-7 : tie.Need-written-requires-7
+written-requires-7 c κs = search needs
+
+cast-written-7 : tie.Need-cast-written-7
+cast-written-7 c = search needs
+
+written-requires-8 : tie.Need-written-requires-8
+written-requires-8 c κs = search needs
 
 nothing-requires : tie.Need-nothing-requires
 nothing-requires c κs = search needs
@@ -75,7 +87,15 @@ returns-6 c = simp (c .written6 .ensures, c .before .match .keys6)
 
 returns-7 : tie.Need-returns-7
 unfolding setsSpecialRegister
-returns-7 c = let r = c .before .match .rest in let q = r .0 .0 in
+returns-7 c = simp (c .written7 .ensures, c .before .match .keys7)
+
+returns-8 : tie.Need-returns-8
+unfolding setsSpecialRegister
+returns-8 c = simp (c .written8 .ensures, c .before .before .match .keys8)
+
+returns-9 : tie.Need-returns-9
+unfolding setsSpecialRegister
+returns-9 c = let r = c .before .match .rest in let q = r .0 .0 in
     simp (
       c .nothing .ensures,
       ne-eqb _ _ (r .1),
@@ -84,6 +104,8 @@ returns-7 c = let r = c .before .match .rest in let q = r .0 .0 in
       ne-eqb _ _ (q .0 .1),
       ne-eqb _ _ (q .0 .0 .1),
       ne-eqb _ _ (q .0 .0 .0 .1),
+      ne-eqb _ _ (q .0 .0 .0 .0 .1),
+      ne-eqb _ _ (q .0 .0 .0 .0 .0 .1),
     )
 
 pub write-spec : {M : Type 1} → statement M
@@ -104,6 +126,10 @@ write-spec =
     written-requires-5
     cast-written-5
     written-requires-6
+    cast-written-6
+    written-requires-7
+    cast-written-7
+    written-requires-8
     nothing-requires
     returns
     returns-2
@@ -111,4 +137,6 @@ write-spec =
     returns-4
     returns-5
     returns-6
-    returns-7)
+    returns-7
+    returns-8
+    returns-9)

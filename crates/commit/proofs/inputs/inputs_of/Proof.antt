@@ -47,8 +47,14 @@ shared-slice-read-t29 c = search needs
 shared-slice-read-t31 : tie.Need-shared-slice-read-t31
 shared-slice-read-t31 c = search needs
 
+shared-slice-read-t34 : tie.Need-shared-slice-read-t34
+shared-slice-read-t34 c = search needs
+
+shared-slice-read-t36 : tie.Need-shared-slice-read-t36
+shared-slice-read-t36 c = search needs
+
 returns : tie.Need-returns
-returns c = let s = c .before .before .before .before .before .before .before .before .before .before .before in
+returns c = let s = c .before .before .before .before .before .before .before .before .before .before .before .before .before in
     simp (s .register2 .ensures, s .before .register .ensures)
 
 pub inputs-of-spec : {M : Type 1} → statement M
@@ -70,4 +76,6 @@ inputs-of-spec =
     shared-slice-read-t26
     shared-slice-read-t29
     shared-slice-read-t31
+    shared-slice-read-t34
+    shared-slice-read-t36
     returns)

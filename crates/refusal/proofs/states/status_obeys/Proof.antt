@@ -1,13 +1,6 @@
-use mathlib.Core.Path.{sym, ap, _∙_}
-use mathlib.Core.List.{[], _∷_}
-use Prim.Native.Nat.{ℕ}
-use denote.Ref.{now}
-use lib.Dec.{eqb}
+use mathlib.Core.Path.{sym, _∙_}
 use borrow.Author.Tests.{eq-eqb, ne-eqb}
-use Rattle.arith.specs.Status.{allowed}
-use Rattle.effect.specs.State.{esrAt}
-use Rattle.commit.specs.Inner.{ownWord}
-use Rattle.refusal.proofs.Tests.{pass, last}
+use Rattle.refusal.proofs.Tests.{and-true}
 use borrow.Author.Needs.{needs}
 use Rattle.refusal.proofs.states.status_obeys.Statement.{statement}
 use Rattle.refusal.proofs.states.status_obeys.Tie as tie
@@ -30,9 +23,22 @@ keep-allowed-requires-2 c κs = search needs
 returns-2 : tie.Need-returns-2
 returns-2 c =
     λ board core.
-    let esr = ownWord (now (c .before .before .before .before .before .before .args .own)) esrAt in
-    last (ap (λ (x : ℕ). eqb x esr) (c .keep-allowed2 .ensures))
-    ∙ pass (eq-eqb _ _ (sym (c .before .before .before .keep-allowed .ensures) ∙ c .before .before .if1 .left)) (eqb (allowed esr) esr ∷ [])
+    simp (
+      eq-eqb _ _ (sym (c .before .before .before .before .keep-allowed .ensures) ∙ c .before .before .before .if1 .left),
+      ne-eqb _ _ (λ q. c .if2 .taken (c .before .keep-allowed2 .ensures ∙ q)),
+    )
+
+shared-slice-read-result : tie.Need-shared-slice-read-result
+shared-slice-read-result c = search needs
+
+returns-3 : tie.Need-returns-3
+returns-3 c =
+    λ board core.
+    simp (
+      eq-eqb _ _ (sym (c .before .before .before .before .before .keep-allowed .ensures) ∙ c .before .before .before .before .if1 .left),
+      eq-eqb _ _ (sym (c .before .before .keep-allowed2 .ensures) ∙ c .before .if2 .left),
+      and-true,
+    )
 
 pub status-obeys-spec : {M : Type 1} → statement M
 status-obeys-spec =
@@ -43,4 +49,6 @@ status-obeys-spec =
     returns
     shared-slice-read-esr
     keep-allowed-requires-2
-    returns-2)
+    returns-2
+    shared-slice-read-result
+    returns-3)

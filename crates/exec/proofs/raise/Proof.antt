@@ -2,18 +2,17 @@ use mathlib.Core.Path.{refl, ap, _∙_}
 use Prim.Native.Nat.{_+_, _-_, _*_}
 use native.Mathlib.Omega.{arith}
 use denote.Ref.{now}
-use Rattle.isa.specs.declared.vectors.Cause.the-variants.{Bus}
 use Rattle.effect.specs.declared.types.Inputs.{Inputs}
 use Rattle.effect.specs.Inner.{effectBy}
 use Rattle.effect.specs.Effect.{raises, faults}
 use Rattle.effect.specs.State.{stateWords}
-use Rattle.commit.specs.Commit.{inputs, fetchFault}
+use Rattle.commit.specs.Commit.{inputs, noFields}
 use Rattle.commit.proofs.Own.{mid-words, mid-committed}
 use Rattle.commit.proofs.Commits.{placed-as, owned-as, kept}
 use Rattle.exec.proofs.Executes.{executed-kept}
 use borrow.Author.Needs.{needs}
-use Rattle.exec.proofs.fetch_fault.Statement.{statement}
-use Rattle.exec.proofs.fetch_fault.Tie as tie
+use Rattle.exec.proofs.raise.Statement.{statement}
+use Rattle.exec.proofs.raise.Tie as tie
 
 state-at-requires : tie.Need-state-at-requires
 state-at-requires c κs = search needs
@@ -56,14 +55,14 @@ returns c =
     let s = now (a .states) in
     let x = c .before .before .before .before .before .state-at .ensures in
     let n = a .core * stateWords + stateWords - a .core * stateWords in
-    let e = c .before .before .before .fault-effect .ensures ∙ ap (λ (x : Inputs). faults x Bus (x .flow .pc)) x in
+    let e = c .before .before .before .fault-effect .ensures ∙ ap (λ (x : Inputs). faults x (a .fault .cause) (a .fault .eear)) x in
     let o = owned-as e (c .before .before .commit-state .ensures) in
     let inside = c .before .before .before .before .before .before .before .before .pre .0 in
-    let own = mid-committed s (a .core) inside n (omega arith) (fetchFault s (a .core)) (omega arith) (o .left) in
+    let own = mid-committed s (a .core) inside n (omega arith) (faults (inputs s (a .core) noFields) (a .fault .cause) (a .fault .eear)) (omega arith) (o .left) in
     λ mem. executed-kept s (a .core) (kept o refl mem) own refl
 
-pub fetch-fault-spec : {M : Type 1} → statement M
-fetch-fault-spec =
+pub raise-spec : {M : Type 1} → statement M
+raise-spec =
     tie.close
     (tie.spec
     state-at-requires

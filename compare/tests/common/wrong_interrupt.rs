@@ -1,0 +1,244 @@
+//! Engines that are wrong in what note 4 of document 02 puts before a fetch, and
+//! engines that turn levels back wrongly.
+
+use super::wrong_step::{read_sheets, write_sheets};
+use compare::check::{Codec, Engine, BY_CACHE};
+use compare::exec::{self, Cause, Exception};
+use compare::isa::{self, Kind};
+use compare::runs::{self, Answer};
+use compare::state::{Core, IEE};
+
+/// The rules one by one; each is right unless it is put otherwise.
+pub struct WrongInterrupt {
+    pub name: &'static str,
+    /// The place of an entry's levels, given the entry's and how many were executed.
+    pub place: fn(usize, usize) -> usize,
+    /// What the entry of a core does with the lines first, even if it is halted.
+    pub latch: fn(&mut [Core], usize, u32),
+    /// Whether a running core takes an interrupt, given it as it was and as it is
+    /// now.
+    pub due: fn(&Core, &Core) -> bool,
+    /// Takes it.
+    pub enter: fn(&mut Core),
+    /// What it counts as, given the table's entry at PC; 0 where there is none.
+    pub count: fn(&mut Answer, u64),
+    /// What it makes of that entry, given the form of the word there.
+    pub table: fn(&mut u64, u64),
+    /// What comes after the step, interrupt or not.
+    pub after: fn(&mut Core, u32),
+    /// Instructions after which one more is executed before an interrupt.
+    pub shields: &'static [Kind],
+    /// A fetch outside memory comes before an interrupt.
+    pub fetches_first: bool,
+}
+
+/// Takes an interrupt, "with EPCR = PC and EEAR kept".
+pub fn enter(core: &mut Core) {
+    exec::take(core, Exception { cause: Cause::Interrupt, failing: None });
+}
+
+pub const RIGHT: WrongInterrupt = WrongInterrupt {
+    name: "right",
+    place: |entry, _| entry,
+    latch: |cores, who, lines| {
+        if cores[who].running {
+            exec::latch(&mut cores[who], lines)
+        }
+    },
+    due: |_, core| core.picsr != 0 && core.has(IEE) && !core.delay,
+    enter,
+    count: |answer, _| {
+        answer.executed += 1;
+        answer.raised += 1;
+    },
+    table: |_, _| {},
+    after: |_, _| {},
+    shields: &[],
+    fetches_first: false,
+};
+
+/// What an engine runs on.
+struct Running<'a> {
+    memory: &'a mut [u8],
+    cores: Vec<Core>,
+    table: Option<&'a mut [u64]>,
+    /// The kind that each core executed last.
+    last: [Option<Kind>; 4],
+    answer: Answer,
+}
+
+impl Running<'_> {
+    /// The step that is no interrupt.
+    fn step(&mut self, who: usize) {
+        let word = exec::fetch(self.memory, self.cores[who].pc);
+        let (step, reused) = match self.table.as_deref_mut() {
+            None => (runs::plain_step(self.memory, &mut self.cores, who), false),
+            Some(table) => runs::fast_step(self.memory, &mut self.cores, who, table),
+        };
+        self.last[who] = word.map(|word| isa::decode_insn(word).kind);
+        self.answer.executed += 1;
+        self.answer.raised += u32::from(step.raised.is_some());
+        self.answer.reused += u32::from(reused);
+    }
+
+    /// The interrupt.
+    fn interrupt(&mut self, rules: &WrongInterrupt, who: usize) {
+        let pc = self.cores[who].pc;
+        (rules.enter)(&mut self.cores[who]);
+        self.last[who] = None;
+        let form = exec::fetch(self.memory, pc).map(isa::decode);
+        match (self.table.as_deref_mut(), form) {
+            (Some(table), Some(form)) => {
+                let entry = &mut table[pc as usize / 4];
+                (rules.count)(&mut self.answer, *entry);
+                (rules.table)(entry, form);
+            }
+            _ => (rules.count)(&mut self.answer, 0),
+        }
+    }
+}
+
+impl WrongInterrupt {
+    fn entry(&self, running: &mut Running, who: usize, lines: u32) {
+        let before = running.cores[who];
+        (self.latch)(&mut running.cores, who, lines);
+        if !before.running {
+            return;
+        }
+        let core = running.cores[who];
+        let outside = exec::fetch(running.memory, core.pc).is_none();
+        let shielded = running.last[who].is_some_and(|kind| self.shields.contains(&kind));
+        let kept_out = shielded || self.fetches_first && outside;
+        if (self.due)(&before, &core) && !kept_out {
+            running.interrupt(self, who);
+        } else {
+            running.step(who);
+        }
+        (self.after)(&mut running.cores[who], lines);
+    }
+
+    fn run(
+        &self,
+        memory: &mut [u8],
+        sheets: &mut [u32],
+        schedule: &[u8],
+        levels: &[u32],
+        table: Option<&mut [u64]>,
+    ) -> u64 {
+        let (cores, answer) = (read_sheets(sheets), Answer::default());
+        let mut running = Running { memory, cores, table, last: [None; 4], answer };
+        for (index, &entry) in schedule.iter().enumerate() {
+            let place = (self.place)(index, running.answer.executed as usize);
+            let lines = levels.get(place).copied().unwrap_or(0);
+            self.entry(&mut running, usize::from(entry), lines);
+        }
+        write_sheets(&running.cores, sheets);
+        running.answer.pack()
+    }
+}
+
+impl Codec for WrongInterrupt {
+    fn name(&self) -> &str {
+        self.name
+    }
+    fn decode(&self, word: u32) -> u64 {
+        BY_CACHE.decode(word)
+    }
+    fn encode(&self, entry: u64) -> u64 {
+        BY_CACHE.encode(entry)
+    }
+}
+
+impl Engine for WrongInterrupt {
+    fn plain_run(
+        &self,
+        memory: &mut [u8],
+        sheets: &mut [u32],
+        schedule: &[u8],
+        levels: &[u32],
+    ) -> u64 {
+        self.run(memory, sheets, schedule, levels, None)
+    }
+    fn fast_run(
+        &self,
+        memory: &mut [u8],
+        sheets: &mut [u32],
+        schedule: &[u8],
+        levels: &[u32],
+        table: &mut [u64],
+    ) -> u64 {
+        self.run(memory, sheets, schedule, levels, Some(table))
+    }
+}
+
+/// What an engine does with what it is lent.
+pub enum Turn {
+    Right,
+    Refuse(u8),
+    /// Runs with other levels.
+    With(Vec<u32>),
+}
+
+/// The lengths in question, and what is due.
+pub struct Lent<'a> {
+    pub entries: usize,
+    pub levels: &'a [u32],
+    /// The refusal due, or 0.
+    pub due: u8,
+    /// The refusal due if the levels were as many as the entries.
+    pub otherwise: u8,
+}
+
+/// An engine that is wrong in which levels it turns back.
+pub struct WrongRefusal {
+    pub name: &'static str,
+    pub turn: fn(&Lent) -> Turn,
+}
+
+impl Codec for WrongRefusal {
+    fn name(&self) -> &str {
+        self.name
+    }
+    fn decode(&self, word: u32) -> u64 {
+        BY_CACHE.decode(word)
+    }
+    fn encode(&self, entry: u64) -> u64 {
+        BY_CACHE.encode(entry)
+    }
+}
+
+impl Engine for WrongRefusal {
+    fn plain_run(
+        &self,
+        memory: &mut [u8],
+        sheets: &mut [u32],
+        schedule: &[u8],
+        levels: &[u32],
+    ) -> u64 {
+        let (entries, low) = (schedule.len(), vec![0; schedule.len()]);
+        let due = runs::plain_refusal(memory, sheets, schedule, levels);
+        let otherwise = runs::plain_refusal(memory, sheets, schedule, &low);
+        match (self.turn)(&Lent { entries, levels, due, otherwise }) {
+            Turn::Right => BY_CACHE.plain_run(memory, sheets, schedule, levels),
+            Turn::Refuse(refusal) => Answer::refused(refusal).pack(),
+            Turn::With(levels) => BY_CACHE.plain_run(memory, sheets, schedule, &levels),
+        }
+    }
+    fn fast_run(
+        &self,
+        memory: &mut [u8],
+        sheets: &mut [u32],
+        schedule: &[u8],
+        levels: &[u32],
+        table: &mut [u64],
+    ) -> u64 {
+        let (entries, low) = (schedule.len(), vec![0; schedule.len()]);
+        let due = runs::fast_refusal(memory, sheets, schedule, levels, table);
+        let otherwise = runs::fast_refusal(memory, sheets, schedule, &low, table);
+        match (self.turn)(&Lent { entries, levels, due, otherwise }) {
+            Turn::Right => BY_CACHE.fast_run(memory, sheets, schedule, levels, table),
+            Turn::Refuse(refusal) => Answer::refused(refusal).pack(),
+            Turn::With(levels) => BY_CACHE.fast_run(memory, sheets, schedule, &levels, table),
+        }
+    }
+}

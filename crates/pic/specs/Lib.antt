@@ -1,0 +1,3 @@
+-- Interrupt: the note's definitions. Inner serves the code.
+pub mod Interrupt
+pub mod Inner

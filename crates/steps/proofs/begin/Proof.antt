@@ -1,0 +1,62 @@
+use mathlib.Core.Bool.{true, false}
+use mathlib.Core.Path.{sym, _∙_}
+use denote.Ref.{now}
+use Rattle.steps.proofs.Cases.{begins-undisturbed, begins-idle, begins-latched}
+use borrow.Author.Needs.{needs}
+use Rattle.steps.proofs.begin.Statement.{statement}
+use Rattle.steps.proofs.begin.Tie as tie
+
+mul-mode : tie.Need-mul-mode
+mul-mode c = search needs
+
+add-mode : tie.Need-add-mode
+add-mode c = search needs
+
+mul-mode-2 : tie.Need-mul-mode-2
+mul-mode-2 c = search needs
+
+slice-read-mode : tie.Need-slice-read-mode
+slice-read-mode c = search needs
+
+returns : tie.Need-returns
+returns c = let a = c .before .before .before .before .args in begins-undisturbed (now (a .states)) (a .entry) (c .before .before .before .before .pre .1 (c .if1 .taken))
+
+returns-2 : tie.Need-returns-2
+returns-2 c = let a = c .before .before .before .before .before .args in begins-idle (now (a .states)) (a .entry) (c .if2 .taken)
+
+latch-requires : tie.Need-latch-requires
+latch-requires c κs = search needs
+
+same-length : tie.Need-same-length
+same-length c = search needs
+
+returns-3 : tie.Need-returns-3
+returns-3 c =
+    let a = c .before .before .before .before .before .before .before .before .before .before .args in
+    let latch = c .before .before .before .latch .ensures in
+    begins-latched (now (a .states)) (a .entry) {b = true} (c .before .before .before .before .before .if2 .left) (latch .0) (sym (c .if3 .taken) ∙ latch .1)
+
+same-length-2 : tie.Need-same-length-2
+same-length-2 c = search needs
+
+returns-4 : tie.Need-returns-4
+returns-4 c =
+    let a = c .before .before .before .before .before .before .before .before .before .before .args in
+    let latch = c .before .before .before .latch .ensures in
+    begins-latched (now (a .states)) (a .entry) {b = false} (c .before .before .before .before .before .if2 .left) (latch .0) (sym (c .if3 .left) ∙ latch .1)
+
+pub begin-spec : {M : Type 1} → statement M
+begin-spec =
+    tie.close
+    (tie.spec
+    mul-mode
+    add-mode
+    mul-mode-2
+    slice-read-mode
+    returns
+    returns-2
+    latch-requires
+    same-length
+    returns-3
+    same-length-2
+    returns-4)
