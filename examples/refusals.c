@@ -12,14 +12,16 @@ static uint32_t states[(OR1K_MAX_CORES + 1) * OR1K_STATE_WORDS];
 static uint8_t schedule[OR1K_MAX_SCHEDULE + 1];
 static uint32_t levels[OR1K_MAX_SCHEDULE + 1];
 static uint64_t cache[OR1K_MAX_MEMORY / 4 + 1];
+static uint32_t limit = OR1K_NO_LIMIT;
 
-/* Prints the refusal of a run from reset with these lengths, and whether it is the one that is due. */
+/* Prints the refusal of a run from reset with these lengths and the limit, and whether it is the one that is due. */
 static void try_levels(const char *what, uint32_t due, size_t memory_length, size_t cores, size_t schedule_length, size_t levels_length, size_t cache_length)
 {
     for (size_t core = 0; core < cores; core++)
         or1k_reset(states + core * OR1K_STATE_WORDS, 0);
     uint32_t refusal = or1k_refusal(
-        or1k_fast_run(memory, memory_length, states, cores * OR1K_STATE_WORDS, schedule, schedule_length, levels, levels_length, cache, cache_length));
+        or1k_fast_run(memory, memory_length, states, cores * OR1K_STATE_WORDS, schedule, schedule_length, levels, levels_length, limit, cache,
+                      cache_length));
     printf("%s: %" PRIu32 "%s\n", what, refusal, refusal == due ? "" : " IS WRONG");
 }
 
@@ -31,7 +33,7 @@ static void try_lengths(const char *what, uint32_t due, size_t memory_length, si
 
 static uint32_t refusal_of_states(size_t length)
 {
-    return or1k_refusal(or1k_plain_run(memory, OR1K_MIN_MEMORY, states, length, schedule, 0, levels, 0));
+    return or1k_refusal(or1k_plain_run(memory, OR1K_MIN_MEMORY, states, length, schedule, 0, levels, 0, OR1K_NO_LIMIT));
 }
 
 int main(void)
@@ -54,6 +56,18 @@ int main(void)
     try_levels("a level too many", OR1K_REFUSED_LEVELS_LENGTH, least, 2, 1, 2, least / 4);
     try_levels("the same, and a missing core", OR1K_REFUSED_CORE, least, 1, 1, 2, least / 4);
     try_levels("the same, and a short cache", OR1K_REFUSED_LEVELS_LENGTH, least, 2, 1, 2, least / 4 - 1);
+    limit = OR1K_MIN_MEMORY;
+    try_lengths("all memory read-only", OR1K_ACCEPTED, least, 2, 1, least / 4);
+    memset(cache, 0, sizeof cache);
+    limit = OR1K_MIN_MEMORY + 4;
+    try_lengths("a limit past memory", OR1K_REFUSED_LIMIT, least, 2, 1, least / 4);
+    try_lengths("the same in more memory", OR1K_ACCEPTED, least + 4, 2, 1, least / 4 + 1);
+    memset(cache, 0, sizeof cache);
+    limit = 2;
+    try_lengths("a limit of 2", OR1K_REFUSED_LIMIT, least, 2, 1, least / 4);
+    try_levels("the same, and a level too many", OR1K_REFUSED_LEVELS_LENGTH, least, 2, 1, 2, least / 4);
+    try_lengths("the same, and a short cache", OR1K_REFUSED_LIMIT, least, 2, 1, least / 4 - 1);
+    limit = OR1K_NO_LIMIT;
     try_lengths("a short cache", OR1K_REFUSED_CACHE_LENGTH, least, 1, 0, least / 4 - 1);
     cache[1] = or1k_decode(0x15000000);
     try_lengths("another word's entry", OR1K_REFUSED_CACHE_ENTRY, least, 1, 0, least / 4);

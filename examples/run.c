@@ -45,12 +45,12 @@ static void print(const char *run, uint64_t answer)
 
 static uint64_t plain_run(void)
 {
-    return or1k_plain_run(memory, MEMORY_BYTES, states, CORES * OR1K_STATE_WORDS, schedule, STEPS, levels, STEPS);
+    return or1k_plain_run(memory, MEMORY_BYTES, states, CORES * OR1K_STATE_WORDS, schedule, STEPS, levels, STEPS, OR1K_NO_LIMIT);
 }
 
 static uint64_t fast_run(void)
 {
-    return or1k_fast_run(memory, MEMORY_BYTES, states, CORES * OR1K_STATE_WORDS, schedule, STEPS, levels, STEPS, cache, MEMORY_BYTES / 4);
+    return or1k_fast_run(memory, MEMORY_BYTES, states, CORES * OR1K_STATE_WORDS, schedule, STEPS, levels, STEPS, OR1K_NO_LIMIT, cache, MEMORY_BYTES / 4);
 }
 
 int main(void)

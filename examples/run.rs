@@ -13,6 +13,7 @@ mod or1k {
     const SR_RESET: u32 = 0x8001;
     const PICMR_RESET: u32 = 3;
     const RUNNING: u32 = 3;
+    const NO_LIMIT: u32 = 0;
 
     // As include/or1k.h declares them.
     extern "C" {
@@ -25,6 +26,7 @@ mod or1k {
             schedule_length: usize,
             levels: *const u32,
             levels_length: usize,
+            limit: u32,
         ) -> u64;
         fn or1k_fast_run(
             memory: *mut u8,
@@ -35,6 +37,7 @@ mod or1k {
             schedule_length: usize,
             levels: *const u32,
             levels_length: usize,
+            limit: u32,
             cache: *mut u64,
             cache_length: usize,
         ) -> u64;
@@ -52,6 +55,7 @@ mod or1k {
                 schedule.len(),
                 levels.as_ptr(),
                 levels.len(),
+                NO_LIMIT,
             )
         }
     }
@@ -68,6 +72,7 @@ mod or1k {
                 schedule.len(),
                 levels.as_ptr(),
                 levels.len(),
+                NO_LIMIT,
                 cache.as_mut_ptr(),
                 cache.len(),
             )

@@ -76,6 +76,11 @@ enum {
     OR1K_PICMR_RESET = 3
 };
 
+/* The limit of a run in which no part of memory is read-only. */
+enum {
+    OR1K_NO_LIMIT = 0
+};
+
 /* Resets one core's state, OR1K_STATE_WORDS words: it runs from the entry, a multiple of 4. */
 static inline void or1k_reset(uint32_t *state, uint32_t entry)
 {
@@ -97,13 +102,15 @@ static inline void or1k_reset(uint32_t *state, uint32_t entry)
  *   schedule  up to OR1K_MAX_SCHEDULE bytes, each the number, from 0, of the core that runs one instruction or takes an interrupt; it is only read
  *   levels    for each entry of the schedule, the levels of 32 interrupt lines, line 0 in the lowest bit; 0 if all are low; it is only read
  *   cache     for the fast run: the entry of each word of memory, or 0 where it is empty [table]
+ * and a number:
+ *   limit     how many bytes at memory's start are read-only, a multiple of 4 up to memory's length, or OR1K_NO_LIMIT
  *
  * What a caller must see to:
  *   - Each pointer is good for its length, aligned for its type and not null, also where the length is 0. Every item is initialised.
  *   - No buffer overlaps another.
  *   - Until the call returns, nobody else writes any of the buffers or reads memory, states or cache: no other thread, signal handler or
  *     device. What was tested would no longer hold, and the run could write outside what it was lent.
- * Nothing else is asked: lengths and items may be anything, and what breaks a rule is refused before anything is written. Nothing is kept
+ * Nothing else is asked: lengths, items and the limit may be anything, and what breaks a rule is refused before anything is written. Nothing is kept
  * after a call, so threads may call at once with buffers of their own.
  *
  * A longer run is further calls on the same buffers: each goes on from what the last one left, which is accepted again, and counts from 0.
@@ -112,7 +119,7 @@ static inline void or1k_reset(uint32_t *state, uint32_t entry)
  * the words that were written to 0; an entry that is no longer its word's is refused.
  */
 
-/* Why a run was refused: the first of 1, 2, 3, 4, 5, 11, 6, 7 that is so (in the plain run without 6 and 7). */
+/* Why a run was refused: the first of 1, 2, 3, 4, 5, 11, 12, 6, 7 that is so (in the plain run without 6 and 7). */
 enum {
     OR1K_ACCEPTED = 0,
     OR1K_REFUSED_MEMORY_LENGTH = 1,   /* memory is too short, too long or no multiple of 4 */
@@ -125,20 +132,24 @@ enum {
     OR1K_REFUSED_CACHE_LENGTH = 6,    /* the cache has not one entry for each word of memory */
     OR1K_REFUSED_CACHE_ENTRY = 7,     /* an entry that is not 0 is not what its word decodes to */
     OR1K_REFUSED_NO_WORD = 8,         /* the encoder only: no word decodes to the entry */
-    OR1K_REFUSED_LEVELS_LENGTH = 11   /* the levels are not one for each entry of the schedule */
+    OR1K_REFUSED_LEVELS_LENGTH = 11,  /* the levels are not one for each entry of the schedule */
+    OR1K_REFUSED_LIMIT = 12           /* the limit is no multiple of 4 or greater than memory's length */
 };
 
 /* Runs the schedule's entries in order and decodes each word afresh. The answer is read by the four functions below.
  * On a running core's entry PICSR first gains the lines that are high and have their bit in PICMR. If it is then not 0, SR has IEE and no delay slot
  * is pending, the core takes an exception to 800 (hexadecimal) in place of an instruction, which counts as executed and raised: EPCR is PC, EEAR and
- * PICSR stay, and ESR, SR and the link are as after any exception. */
+ * PICSR stay, and ESR, SR and the link are as after any exception.
+ * An aligned store or l.swa below the limit, linked or not, raises a bus error to 200 (hexadecimal) with its address in EEAR, writes no memory and clears no
+ * other core's link. Loads, l.lwa, p.* and fetches are free there. */
 uint64_t or1k_plain_run(uint8_t *memory, size_t memory_length, uint32_t *states, size_t states_length,
-                        const uint8_t *schedule, size_t schedule_length, const uint32_t *levels, size_t levels_length);
+                        const uint8_t *schedule, size_t schedule_length, const uint32_t *levels, size_t levels_length,
+                        uint32_t limit);
 
 /* The same run by the decode cache: memory, states, executed and raised are the plain run's. */
 uint64_t or1k_fast_run(uint8_t *memory, size_t memory_length, uint32_t *states, size_t states_length,
                        const uint8_t *schedule, size_t schedule_length, const uint32_t *levels, size_t levels_length,
-                       uint64_t *cache, size_t cache_length);
+                       uint32_t limit, uint64_t *cache, size_t cache_length);
 
 /* The four parts of a run's answer. */
 

@@ -169,19 +169,20 @@ pub fn reset_sheets(cores: usize, entry: u32) -> Vec<u32> {
     sheets
 }
 
-/// A fast run, of this engine or another: memory, sheets, schedule, levels and
-/// table in, the packed answer out.
-pub type FastRun<'a> = &'a mut dyn FnMut(&mut [u8], &mut [u32], &[u8], &[u32], &mut [u64]) -> u64;
+/// A fast run, of this engine or another: memory, sheets, schedule, levels, limit
+/// and table in, the packed answer out.
+pub type FastRun<'a> =
+    &'a mut dyn FnMut(&mut [u8], &mut [u32], &[u8], &[u32], u32, &mut [u64]) -> u64;
 
 /// The whole output of the runner for a card, by this engine's fast run.
 pub fn output(card: &[u8]) -> String {
-    output_with(card, &mut |memory, sheets, schedule, levels, table| {
-        runs::fast_run(memory, sheets, schedule, levels, table).pack()
+    output_with(card, &mut |memory, sheets, schedule, levels, limit, table| {
+        runs::fast_run(memory, sheets, schedule, levels, limit, table).pack()
     })
 }
 
-/// The whole output of the runner for a card, by a given fast run. 02, note 4: "the
-/// card runner gives all lines low".
+/// The whole output of the runner for a card, by a given fast run. 02, notes 4 and
+/// 5: "the card runner gives all lines low" and "uses 0" as its limit.
 pub fn output_with(card: &[u8], fast_run: FastRun) -> String {
     let mut image = vec![0; IMAGE_BYTES];
     match parse(card, &mut image) {
@@ -191,7 +192,7 @@ pub fn output_with(card: &[u8], fast_run: FastRun) -> String {
             let mut table = vec![0; job.memory / 4];
             let memory = &mut image[..job.memory];
             let levels = vec![0; job.schedule.len()];
-            let packed = fast_run(memory, &mut sheets, &job.schedule, &levels, &mut table);
+            let packed = fast_run(memory, &mut sheets, &job.schedule, &levels, 0, &mut table);
             listing(Answer::unpack(packed), &sheets)
         }
     }

@@ -2,6 +2,7 @@
 
 use crate::isa::{self, Insn, Kind};
 use crate::levels::levels;
+use crate::limits;
 use crate::programs;
 use crate::rng::Rng;
 use crate::runs::{MEMORY_MOST, SCHEDULE_MOST};
@@ -14,10 +15,30 @@ pub struct Case {
     pub sheets: Vec<u32>,
     pub schedule: Vec<u8>,
     pub levels: Vec<u32>,
+    pub limit: u32,
     pub table: Vec<u64>,
 }
 
 impl Case {
+    /// A copy of what a run is lent.
+    pub fn of(
+        memory: &[u8],
+        sheets: &[u32],
+        schedule: &[u8],
+        levels: &[u32],
+        limit: u32,
+        table: &[u64],
+    ) -> Case {
+        Case {
+            memory: memory.to_vec(),
+            sheets: sheets.to_vec(),
+            schedule: schedule.to_vec(),
+            levels: levels.to_vec(),
+            limit,
+            table: table.to_vec(),
+        }
+    }
+
     pub fn word(&self, index: usize) -> u32 {
         let bytes = &self.memory[4 * index..4 * index + 4];
         u32::from_be_bytes([bytes[0], bytes[1], bytes[2], bytes[3]])
@@ -52,6 +73,7 @@ impl Case {
 
 /// A case that no refusal is met by, with at most so many entries.
 pub fn accepted_case(rng: &mut Rng, entries_most: usize) -> Case {
+    let mut aside = rng.aside();
     let bytes = match rng.below(24) {
         0 => 4 * rng.between(1_024, 4_096),
         1 => 4_100,
@@ -62,9 +84,11 @@ pub fn accepted_case(rng: &mut Rng, entries_most: usize) -> Case {
     let cores = rng.between(1, 4);
     case.sheets = accepted_sheets(rng, cores, bytes as u32);
     for core in 0..cores {
-        plant_interruptible(rng, &mut case, core);
+        let (slot, words) = (programs::interruptible_slot, programs::interruptible_words);
+        plant(rng, &mut case, core, 3, slot, words);
         plant_self_store(rng, &mut case, core);
     }
+    limits::throw(&mut aside, &mut case);
     case.throw_schedule(rng, entries_most);
     case.table = accepted_table(rng, &case);
     case
@@ -91,6 +115,7 @@ pub fn large_case(rng: &mut Rng) -> Case {
         case.set_word(index, word);
     }
     case.sheets[place::PC] = MEMORY_MOST as u32 - 64;
+    case.limit = limits::good(&mut rng.aside(), &case);
     case
 }
 
@@ -145,17 +170,25 @@ pub fn accepted_sheets(rng: &mut Rng, cores: usize, bytes: u32) -> Vec<u32> {
     sheets
 }
 
-/// Puts words that a line may rise in near where a core starts, now and then.
-fn plant_interruptible(rng: &mut Rng, case: &mut Case, core: usize) {
+/// Puts words near where a core starts, once in `rare` times; if it starts in a
+/// slot, half the time those for one.
+pub fn plant(
+    rng: &mut Rng,
+    case: &mut Case,
+    core: usize,
+    rare: usize,
+    slot: fn(&mut Rng) -> Vec<u32>,
+    words: fn(&mut Rng) -> Vec<u32>,
+) {
     let sheet = &case.sheets[core * SHEET_WORDS..];
     let (first, in_slot) = (sheet[place::PC] as usize / 4, sheet[place::DELAY] == 1);
     if 4 * first + 64 > case.memory.len() {
         return;
     }
     if in_slot && rng.one_in(2) {
-        set_words(case, first, &programs::interruptible_slot(rng));
-    } else if rng.one_in(3) {
-        set_words(case, first + rng.below(6), &programs::interruptible_words(rng));
+        set_words(case, first, &slot(rng));
+    } else if rng.one_in(rare) {
+        set_words(case, first + rng.below(6), &words(rng));
     }
 }
 
@@ -295,9 +328,11 @@ fn accepted_table(rng: &mut Rng, case: &Case) -> Vec<u64> {
     (0..words).map(&mut fill).collect()
 }
 
-/// The refusals of the runs as they are tested: 01's "1 to 7 in this order", and 11
-/// "after 5".
-pub const ORDER: [u8; 8] = [1, 2, 3, 4, 5, 11, 6, 7];
+/// The refusals of the runs as they are tested: 01's "1 to 7 in this order", 11
+/// "after 5", and 12 "after 11".
+pub const ORDER: [u8; 9] = [1, 2, 3, 4, 5, 11, 12, 6, 7];
+/// Those that `break_by` chooses from: 12 comes from a stream of its own.
+const DRAWN: [u8; 8] = [1, 2, 3, 4, 5, 11, 6, 7];
 
 /// The one of two refusals that is tested first.
 fn earlier(one: u8, other: u8) -> u8 {
@@ -305,9 +340,24 @@ fn earlier(one: u8, other: u8) -> u8 {
     *ORDER.iter().find(met).expect("a refusal of the runs")
 }
 
-/// A case broken in one or two places and the refusal it must meet.
+/// A case broken in one to three places and the refusal it must meet.
 pub fn broken_case(rng: &mut Rng) -> (Case, u8) {
     let mut case = accepted_case(rng, 40);
+    let mut aside = rng.aside();
+    if aside.one_in(8) {
+        case.limit = limits::wrong(&mut aside, &case);
+        return (case, 12);
+    }
+    let (mut case, refusal) = break_otherwise(rng, case);
+    if !aside.one_in(4) {
+        return (case, refusal);
+    }
+    case.limit = limits::wrong(&mut aside, &case);
+    (case, earlier(refusal, 12))
+}
+
+/// Breaks a case in one or two places, its limit not being one of them.
+fn break_otherwise(rng: &mut Rng, mut case: Case) -> (Case, u8) {
     let first = break_by(rng, &mut case, 0);
     if rng.one_in(2) {
         return (case, first);
@@ -318,7 +368,7 @@ pub fn broken_case(rng: &mut Rng) -> (Case, u8) {
 
 /// Breaks a case so that it meets some refusal other than `not`.
 fn break_by(rng: &mut Rng, case: &mut Case, not: u8) -> u8 {
-    let mut refusal = rng.pick(&ORDER);
+    let mut refusal = rng.pick(&DRAWN);
     // A table or sheets of another length have no places to break again.
     if refusal == not || (not <= 2 && not != 0) || not == 6 {
         refusal = if not == 5 { 3 } else { 5 };

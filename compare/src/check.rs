@@ -25,6 +25,7 @@ pub trait Engine: Codec {
         sheets: &mut [u32],
         schedule: &[u8],
         levels: &[u32],
+        limit: u32,
     ) -> u64;
     fn fast_run(
         &self,
@@ -32,11 +33,12 @@ pub trait Engine: Codec {
         sheets: &mut [u32],
         schedule: &[u8],
         levels: &[u32],
+        limit: u32,
         table: &mut [u64],
     ) -> u64;
 }
 
-type FastRun = fn(&mut [u8], &mut [u32], &[u8], &[u32], &mut [u64]) -> Answer;
+type FastRun = fn(&mut [u8], &mut [u32], &[u8], &[u32], u32, &mut [u64]) -> Answer;
 
 /// This engine, with one of its two fast runs.
 pub struct Paper {
@@ -68,8 +70,9 @@ impl Engine for Paper {
         sheets: &mut [u32],
         schedule: &[u8],
         levels: &[u32],
+        limit: u32,
     ) -> u64 {
-        runs::plain_run(memory, sheets, schedule, levels).pack()
+        runs::plain_run(memory, sheets, schedule, levels, limit).pack()
     }
     fn fast_run(
         &self,
@@ -77,9 +80,10 @@ impl Engine for Paper {
         sheets: &mut [u32],
         schedule: &[u8],
         levels: &[u32],
+        limit: u32,
         table: &mut [u64],
     ) -> u64 {
-        (self.fast_run)(memory, sheets, schedule, levels, table).pack()
+        (self.fast_run)(memory, sheets, schedule, levels, limit, table).pack()
     }
 }
 
@@ -93,16 +97,16 @@ pub struct Left {
 /// Runs a copy of a case by the plain run; the table is not lent.
 pub fn after_plain(engine: &dyn Engine, case: &Case) -> Left {
     let mut case = case.clone();
-    let Case { memory, sheets, schedule, levels, .. } = &mut case;
-    let packed = engine.plain_run(memory, sheets, schedule, levels);
+    let Case { memory, sheets, schedule, levels, limit, .. } = &mut case;
+    let packed = engine.plain_run(memory, sheets, schedule, levels, *limit);
     Left { answer: Answer::unpack(packed), case }
 }
 
 /// Runs a copy of a case by the fast run.
 pub fn after_fast(engine: &dyn Engine, case: &Case) -> Left {
     let mut case = case.clone();
-    let Case { memory, sheets, schedule, levels, table } = &mut case;
-    let packed = engine.fast_run(memory, sheets, schedule, levels, table);
+    let Case { memory, sheets, schedule, levels, limit, table } = &mut case;
+    let packed = engine.fast_run(memory, sheets, schedule, levels, *limit, table);
     Left { answer: Answer::unpack(packed), case }
 }
 
@@ -185,7 +189,7 @@ fn refused_complaint(case: &Case, plain: &Left, fast: &Left) -> Option<String> {
     if fast.case != *case {
         return Some(format!("refused by {refusal}, yet something lent was written"));
     }
-    let concerns_both = refusal <= 5 || refusal == 11;
+    let concerns_both = ![6, 7].contains(&refusal);
     if concerns_both && (plain.answer != fast.answer || plain.case != *case) {
         return Some(format!("plain run of a case refused by {refusal}: {:?}", plain.answer));
     }
@@ -199,8 +203,8 @@ fn ran_complaint(plain: &Left, fast: &Left) -> Option<String> {
     if let Some(difference) = difference {
         return Some(format!("plain against fast: {difference}"));
     }
-    let Case { memory, sheets, schedule, levels, table } = &fast.case;
-    match runs::fast_refusal(memory, sheets, schedule, levels, table) {
+    let Case { memory, sheets, schedule, levels, limit, table } = &fast.case;
+    match runs::fast_refusal(memory, sheets, schedule, levels, *limit, table) {
         0 => None,
         refusal => Some(format!("not accepted again: {refusal}")),
     }
@@ -226,8 +230,8 @@ fn differing<T: PartialEq + std::fmt::LowerHex>(what: &str, x: &[T], y: &[T]) ->
 /// Whether two engines' fast runs print the same for a card, read here.
 pub fn same_card(one: &dyn Engine, other: &dyn Engine, card: &[u8]) -> Result<(), String> {
     let print = |engine: &dyn Engine| {
-        card::output_with(card, &mut |memory, sheets, schedule, levels, table| {
-            engine.fast_run(memory, sheets, schedule, levels, table)
+        card::output_with(card, &mut |memory, sheets, schedule, levels, limit, table| {
+            engine.fast_run(memory, sheets, schedule, levels, limit, table)
         })
     };
     let (x, y) = (print(one), print(other));

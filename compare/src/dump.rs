@@ -13,6 +13,7 @@ pub fn write_case(case: &Case) -> String {
     write_items(&mut text, "sheets", &case.sheets);
     write_bytes(&mut text, "schedule", &case.schedule);
     write_items(&mut text, "levels", &case.levels);
+    text.push_str(&format!("limit {}\n", case.limit));
     write_items(&mut text, "table", &case.table);
     text.push_str("case-end\n");
     text
@@ -55,7 +56,9 @@ pub fn read_case(text: &str) -> Option<Case> {
             return Some(case);
         }
         let (first, second) = line.split_once(' ')?;
-        if matches!(first, "memory" | "sheets" | "schedule" | "levels" | "table") {
+        if first == "limit" {
+            case.limit = second.parse().ok()?;
+        } else if matches!(first, "memory" | "sheets" | "schedule" | "levels" | "table") {
             section = first.to_string();
             resize(&mut case, first, second.parse().ok()?);
         } else {

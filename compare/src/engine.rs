@@ -15,6 +15,7 @@ extern "C" {
         schedule_length: usize,
         levels: *const u32,
         levels_length: usize,
+        limit: u32,
     ) -> u64;
     fn or1k_fast_run(
         memory: *mut u8,
@@ -25,6 +26,7 @@ extern "C" {
         schedule_length: usize,
         levels: *const u32,
         levels_length: usize,
+        limit: u32,
         cache: *mut u64,
         cache_length: usize,
     ) -> u64;
@@ -53,10 +55,11 @@ impl Engine for Archive {
         sheets: &mut [u32],
         schedule: &[u8],
         levels: &[u32],
+        limit: u32,
     ) -> u64 {
         // SAFETY: each pointer is a slice's and goes with that slice's length,
         // and no two mutable slices overlap. The functions require nothing of
-        // lengths or items: what they do not run they refuse.
+        // lengths, items or the limit: what they do not run they refuse.
         unsafe {
             or1k_plain_run(
                 memory.as_mut_ptr(),
@@ -67,6 +70,7 @@ impl Engine for Archive {
                 schedule.len(),
                 levels.as_ptr(),
                 levels.len(),
+                limit,
             )
         }
     }
@@ -76,6 +80,7 @@ impl Engine for Archive {
         sheets: &mut [u32],
         schedule: &[u8],
         levels: &[u32],
+        limit: u32,
         table: &mut [u64],
     ) -> u64 {
         // SAFETY: as above.
@@ -89,6 +94,7 @@ impl Engine for Archive {
                 schedule.len(),
                 levels.as_ptr(),
                 levels.len(),
+                limit,
                 table.as_mut_ptr(),
                 table.len(),
             )

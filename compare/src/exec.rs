@@ -30,6 +30,14 @@ pub struct Step {
     pub stored: Option<u32>,
 }
 
+/// Memory as instructions meet it: they read all of it and write none of its
+/// start (02, note 5).
+pub struct Memory<'a> {
+    pub bytes: &'a mut [u8],
+    /// The length of the read-only start, a multiple of 4.
+    pub limit: u32,
+}
+
 /// Where a completed instruction goes on.
 enum Flow {
     Next,
@@ -104,7 +112,7 @@ pub fn latch(core: &mut Core, lines: u32) {
 /// Runs one decoded instruction of core `who`, which is in mode 3. It is put
 /// into each run's loop, which spares a third of a step's work.
 #[inline(always)]
-pub fn execute(cores: &mut [Core], who: usize, memory: &mut [u8], insn: Insn) -> Step {
+pub fn execute(cores: &mut [Core], who: usize, memory: &mut Memory, insn: Insn) -> Step {
     let count = cores.len() as u32;
     let core = &mut cores[who];
     match operate(core, (who as u32, count), memory, insn) {
@@ -126,7 +134,7 @@ pub fn execute(cores: &mut [Core], who: usize, memory: &mut [u8], insn: Insn) ->
 
 /// Sorts an instruction to the function for its family.
 #[inline(always)]
-fn operate(core: &mut Core, identity: (u32, u32), memory: &mut [u8], insn: Insn) -> Outcome {
+fn operate(core: &mut Core, identity: (u32, u32), memory: &mut Memory, insn: Insn) -> Outcome {
     use Kind::*;
     match insn.kind {
         Illegal => Err(illegal(core)),
@@ -134,9 +142,9 @@ fn operate(core: &mut Core, identity: (u32, u32), memory: &mut [u8], insn: Insn)
         Trap => Err(Cause::Trap.plain()),
         Nop if insn.imm == 1 => Ok(Flow::Halt),
         Nop | Msync | Psync | Csync => Ok(Flow::Next),
-        Lwa | Lwz | Lws | Lbz | Lbs | Lhz | Lhs => load(core, memory, insn),
+        Lwa | Lwz | Lws | Lbz | Lbs | Lhz | Lhs => load(core, memory.bytes, insn),
         Swa | Sw | Sb | Sh => store(core, memory, insn),
-        Cinvalidate | Cwriteback | Cflush => touch(core, memory, insn),
+        Cinvalidate | Cwriteback | Cflush => touch(core, memory.bytes, insn),
         Add | Addc | Sub | Addi | Addic => sum(core, insn),
         Mfspr => Ok(read_special(core, identity, insn)),
         Mtspr => Ok(write_special(core, insn)),
@@ -210,6 +218,23 @@ fn reach(core: &Core, memory: &[u8], insn: Insn, width: usize) -> Result<usize, 
     Ok(place)
 }
 
+/// The address of a store: "reaching below" the limit "raises bus error after
+/// alignment". As both are multiples of its width, a store that has a byte below
+/// the limit starts below it.
+#[inline]
+fn reach_to_write(
+    core: &Core,
+    memory: &Memory,
+    insn: Insn,
+    width: usize,
+) -> Result<usize, Exception> {
+    let at = reach(core, memory.bytes, insn, width)?;
+    if at < memory.limit as usize {
+        return Err(Cause::Bus.at(at as u32));
+    }
+    Ok(at)
+}
+
 #[inline]
 fn load(core: &mut Core, memory: &[u8], insn: Insn) -> Outcome {
     let value = match insn.kind {
@@ -240,25 +265,26 @@ fn word_at(memory: &[u8], at: usize) -> u32 {
 }
 
 #[inline]
-fn store(core: &mut Core, memory: &mut [u8], insn: Insn) -> Outcome {
+fn store(core: &mut Core, memory: &mut Memory, insn: Insn) -> Outcome {
     let value = core.get(insn.b);
     let at = match insn.kind {
         Kind::Sb => {
-            let at = reach(core, memory, insn, 1)?;
-            memory[at] = value as u8;
+            let at = reach_to_write(core, memory, insn, 1)?;
+            memory.bytes[at] = value as u8;
             at
         }
         Kind::Sh => {
-            let at = reach(core, memory, insn, 2)?;
-            memory[at..at + 2].copy_from_slice(&(value as u16).to_be_bytes());
+            let at = reach_to_write(core, memory, insn, 2)?;
+            memory.bytes[at..at + 2].copy_from_slice(&(value as u16).to_be_bytes());
             at
         }
         _ => {
-            let at = reach(core, memory, insn, 4)?;
+            let at = reach_to_write(core, memory, insn, 4)?;
+            // The link is tested after the limit, and not where that raises.
             if insn.kind == Kind::Swa && !use_link(core, at as u32) {
                 return Ok(Flow::Next);
             }
-            memory[at..at + 4].copy_from_slice(&value.to_be_bytes());
+            memory.bytes[at..at + 4].copy_from_slice(&value.to_be_bytes());
             at
         }
     };

@@ -87,25 +87,8 @@ impl Lent {
 }
 
 impl Guarded<'_> {
-    fn refuse_stray_writes(
-        &self,
-        lent: &mut Lent,
-        memory: &[u8],
-        sheets: &[u32],
-        schedule: &[u8],
-        levels: &[u32],
-        table: &[u64],
-    ) {
-        if let Some(place) = lent.broken(schedule, levels) {
-            let case = Case {
-                memory: memory.to_vec(),
-                sheets: sheets.to_vec(),
-                schedule: schedule.to_vec(),
-                levels: levels.to_vec(),
-                table: table.to_vec(),
-            };
-            panic!("{}: {place} was written\n{}", self.name(), dump::write_case(&case));
-        }
+    fn stop(&self, place: &str, case: &Case) -> ! {
+        panic!("{}: {place} was written\n{}", self.name(), dump::write_case(case))
     }
 }
 
@@ -116,6 +99,7 @@ impl Engine for Guarded<'_> {
         sheets: &mut [u32],
         schedule: &[u8],
         levels: &[u32],
+        limit: u32,
     ) -> u64 {
         let mut lent = Lent::copy(memory, sheets, schedule, levels, &[]);
         let answer = self.0.plain_run(
@@ -123,8 +107,11 @@ impl Engine for Guarded<'_> {
             lent.sheets.lent(),
             lent.schedule.lent(),
             lent.levels.lent(),
+            limit,
         );
-        self.refuse_stray_writes(&mut lent, memory, sheets, schedule, levels, &[]);
+        if let Some(place) = lent.broken(schedule, levels) {
+            self.stop(place, &Case::of(memory, sheets, schedule, levels, limit, &[]));
+        }
         memory.copy_from_slice(lent.memory.lent());
         sheets.copy_from_slice(lent.sheets.lent());
         answer
@@ -135,6 +122,7 @@ impl Engine for Guarded<'_> {
         sheets: &mut [u32],
         schedule: &[u8],
         levels: &[u32],
+        limit: u32,
         table: &mut [u64],
     ) -> u64 {
         let mut lent = Lent::copy(memory, sheets, schedule, levels, table);
@@ -143,9 +131,12 @@ impl Engine for Guarded<'_> {
             lent.sheets.lent(),
             lent.schedule.lent(),
             lent.levels.lent(),
+            limit,
             lent.table.lent(),
         );
-        self.refuse_stray_writes(&mut lent, memory, sheets, schedule, levels, table);
+        if let Some(place) = lent.broken(schedule, levels) {
+            self.stop(place, &Case::of(memory, sheets, schedule, levels, limit, table));
+        }
         memory.copy_from_slice(lent.memory.lent());
         sheets.copy_from_slice(lent.sheets.lent());
         table.copy_from_slice(lent.table.lent());

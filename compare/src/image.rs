@@ -9,6 +9,8 @@ use std::path::{Path, PathBuf};
 
 /// Where every core of a compiled program starts.
 pub const RESET: u32 = 0x100;
+/// Where code starts that is not the vectors'.
+pub const TEXT: u32 = 0x1000;
 /// The memory that the linker script lays out.
 pub const BYTES: usize = 65_536;
 
@@ -47,10 +49,14 @@ impl Image {
         image.unwrap_or_else(|| panic!("no image in {}", file.display()))
     }
 
-    /// The indices of its code: from the reset vector to the end that the word
-    /// at 0 names.
+    /// The end of its code, which the word at 0 names; its data comes after it.
+    pub fn code_end(&self) -> u32 {
+        self.words[0]
+    }
+
+    /// The indices of its code, from the reset vector on.
     pub fn code(&self) -> Range<usize> {
-        RESET as usize / 4..self.words[0] as usize / 4
+        RESET as usize / 4..self.code_end() as usize / 4
     }
 
     /// The program with a handler for interrupts (02, note 4). It clears what is
@@ -64,13 +70,15 @@ impl Image {
         self
     }
 
-    /// Cores just reset, the image in memory, no schedule and an empty table.
+    /// Cores just reset, the image in memory, no schedule, no limit and an empty
+    /// table.
     pub fn case(&self, bytes: usize, cores: usize) -> Case {
         let mut case = Case {
             memory: vec![0; bytes],
             sheets: reset_sheets(cores, RESET),
             schedule: vec![],
             levels: vec![],
+            limit: 0,
             table: vec![0; bytes / 4],
         };
         for (index, &word) in self.words.iter().enumerate() {

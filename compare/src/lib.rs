@@ -18,6 +18,7 @@ pub mod guard;
 pub mod image;
 pub mod isa;
 pub mod levels;
+pub mod limits;
 pub mod programs;
 pub mod rng;
 pub mod runs;

@@ -1,9 +1,9 @@
 //! Random words and programs.
 //!
 //! Programs keep to some habits, so that they run for long before they end in
-//! nothing but exceptions: r1-r4 are addresses, r5-r8 hold words that are
-//! instructions, r10-r15 hold numbers at edges, r16-r19 border words, r20-r27
-//! factors: r20 as a rule 80000000, r21 ffffffff and r22 0.
+//! nothing but exceptions: r1-r4 are addresses, r4 often the limit, r5-r8 hold
+//! words that are instructions, r10-r15 hold numbers at edges, r16-r19 border
+//! words, r20-r27 factors: r20 as a rule 80000000, r21 ffffffff and r22 0.
 
 use crate::isa::{self, Insn, Kind, KINDS, TABLE};
 use crate::rng::Rng;
@@ -257,18 +257,13 @@ fn control(rng: &mut Rng) -> Insn {
 
 fn load(rng: &mut Rng) -> Insn {
     let kind = pick_kind(rng, Kind::Lwz, Kind::Lhs);
-    let width = match kind {
-        Kind::Lbz | Kind::Lbs => 1,
-        Kind::Lhz | Kind::Lhs => 2,
-        _ => 4,
-    };
-    insn(kind, target(rng), pointer(rng), 0, offset(rng, width))
+    insn(kind, target(rng), pointer(rng), 0, offset(rng, width(kind)))
 }
 
 fn store(rng: &mut Rng) -> Insn {
-    let (kind, width) = rng.pick(&[(Kind::Sw, 4), (Kind::Sw, 4), (Kind::Sb, 1), (Kind::Sh, 2)]);
+    let kind = rng.pick(&[Kind::Sw, Kind::Sw, Kind::Sb, Kind::Sh]);
     let value = if rng.one_in(3) { source(rng) } else { rng.between(5, 8) as u8 };
-    insn(kind, 0, pointer(rng), value, offset(rng, width))
+    insn(kind, 0, pointer(rng), value, offset(rng, width(kind)))
 }
 
 /// l.lwa and l.swa, mostly on the word r1 points to.
@@ -407,6 +402,61 @@ pub fn interruptible_words(rng: &mut Rng) -> Vec<u32> {
 pub fn interruptible_slot(rng: &mut Rng) -> Vec<u32> {
     let trap = insn(Kind::Trap, 0, 0, 0, 0);
     words(&[rng.pick(&[write(PICSR, 0), write(PICSR, 6), trap])])
+}
+
+/// An access to bytes around those that r4 points to, often right before them or
+/// the first of them, seldom a misaligned one.
+fn access(rng: &mut Rng, kind: Kind) -> Insn {
+    let width = width(kind) as u32;
+    let around = (rng.between(0, 11) as u32).wrapping_sub(8);
+    let imm = match rng.below(8) {
+        0..=2 => 0u32.wrapping_sub(width),
+        3 | 4 => 0,
+        5 => around,
+        _ => around & !(width - 1),
+    };
+    let (d, b) = (rng.between(10, 15) as u8, rng.between(5, 8) as u8);
+    trim(insn(kind, d, 4, b, imm))
+}
+
+/// How many bytes an access of some kind has.
+fn width(kind: Kind) -> usize {
+    match kind {
+        Kind::Lwa | Kind::Lwz | Kind::Lws | Kind::Swa | Kind::Sw => 4,
+        Kind::Lhz | Kind::Lhs | Kind::Sh => 2,
+        _ => 1,
+    }
+}
+
+/// A store around there.
+fn probing_store(rng: &mut Rng) -> Insn {
+    let kind = rng.pick(&[Kind::Sw, Kind::Sb, Kind::Sb, Kind::Sh, Kind::Swa, Kind::Swa]);
+    access(rng, kind)
+}
+
+/// A load or p.* around there.
+fn probing_read(rng: &mut Rng) -> Insn {
+    let (load, other) =
+        (pick_kind(rng, Kind::Lwa, Kind::Lhs), pick_kind(rng, Kind::Cinvalidate, Kind::Cflush));
+    let kind = rng.pick(&[load, load, other]);
+    access(rng, kind)
+}
+
+/// Words that probe the memory around r4: stores, one of them in a slot, l.swa after
+/// l.lwa of the same word or of another, and reads.
+pub fn probe(rng: &mut Rng) -> Vec<u32> {
+    let (link, other) = (access(rng, Kind::Lwa), access(rng, Kind::Swa));
+    match rng.below(4) {
+        0 => words(&[insn(Kind::J, 0, 0, 0, 8), probing_store(rng)]),
+        1 => words(&[link, insn(Kind::Swa, 0, 4, 5, link.imm)]),
+        2 => words(&[link, other]),
+        _ => words(&[probing_store(rng), probing_read(rng), probing_store(rng)]),
+    }
+}
+
+/// The slot of these.
+pub fn probe_slot(rng: &mut Rng) -> Vec<u32> {
+    words(&[probing_store(rng)])
 }
 
 /// A handler that goes on `skip` bytes after the instruction that raised.

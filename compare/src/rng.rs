@@ -18,6 +18,11 @@ impl Rng {
         mixed ^ (mixed >> 31)
     }
 
+    /// Another stream, by which this one's numbers stay what they are.
+    pub fn aside(&self) -> Rng {
+        Rng::new(!self.state.rotate_left(32))
+    }
+
     pub fn next_u32(&mut self) -> u32 {
         (self.next_u64() >> 32) as u32
     }

@@ -1,6 +1,6 @@
 //! The plain run, the fast run in two wordings, and what turns them back.
 
-use crate::exec::{self, Step};
+use crate::exec::{self, Memory, Step};
 use crate::isa::{self, Insn};
 use crate::state::{self, Core, SHEET_WORDS};
 
@@ -61,9 +61,20 @@ pub fn memory_is_good(memory: &[u8]) -> bool {
     (MEMORY_LEAST..=MEMORY_MOST).contains(&memory.len()) && memory.len().is_multiple_of(4)
 }
 
-/// The first of refusals 1 to 5 and 11 that is met, or 0. 02, note 4, has 11 "after
-/// 5".
-pub fn plain_refusal(memory: &[u8], sheets: &[u32], schedule: &[u8], levels: &[u32]) -> u8 {
+/// 02, note 5, has 12 for "a limit that is no multiple of 4 or exceeds memory".
+pub fn limit_is_good(memory: &[u8], limit: u32) -> bool {
+    limit.is_multiple_of(4) && limit as usize <= memory.len()
+}
+
+/// The first of refusals 1 to 5, 11 and 12 that is met, or 0. 02, notes 4 and 5,
+/// have 11 "after 5" and 12 "after 11".
+pub fn plain_refusal(
+    memory: &[u8],
+    sheets: &[u32],
+    schedule: &[u8],
+    levels: &[u32],
+    limit: u32,
+) -> u8 {
     if !memory_is_good(memory) {
         return 1;
     }
@@ -82,18 +93,22 @@ pub fn plain_refusal(memory: &[u8], sheets: &[u32], schedule: &[u8], levels: &[u
     if levels.len() != schedule.len() {
         return 11;
     }
+    if !limit_is_good(memory, limit) {
+        return 12;
+    }
     0
 }
 
-/// The first of refusals 1 to 5, 11, 6 and 7 that is met, or 0.
+/// The first of refusals 1 to 5, 11, 12, 6 and 7 that is met, or 0.
 pub fn fast_refusal(
     memory: &[u8],
     sheets: &[u32],
     schedule: &[u8],
     levels: &[u32],
+    limit: u32,
     table: &[u64],
 ) -> u8 {
-    let plain = plain_refusal(memory, sheets, schedule, levels);
+    let plain = plain_refusal(memory, sheets, schedule, levels, limit);
     if plain != 0 {
         return plain;
     }
@@ -130,13 +145,20 @@ fn write_sheets(cores: &[Core], sheets: &mut [u32]) {
 }
 
 /// The plain run: fetches, decodes and executes every entry afresh.
-pub fn plain_run(memory: &mut [u8], sheets: &mut [u32], schedule: &[u8], levels: &[u32]) -> Answer {
-    let refusal = plain_refusal(memory, sheets, schedule, levels);
+pub fn plain_run(
+    memory: &mut [u8],
+    sheets: &mut [u32],
+    schedule: &[u8],
+    levels: &[u32],
+    limit: u32,
+) -> Answer {
+    let refusal = plain_refusal(memory, sheets, schedule, levels, limit);
     if refusal != 0 {
         return Answer::refused(refusal);
     }
     let mut all = read_sheets(sheets);
     let cores = &mut all[..sheets.len() / SHEET_WORDS];
+    let memory = &mut Memory { bytes: memory, limit };
     let mut answer = Answer::default();
     for (&entry, &lines) in schedule.iter().zip(levels) {
         let who = usize::from(entry);
@@ -152,8 +174,8 @@ pub fn plain_run(memory: &mut [u8], sheets: &mut [u32], schedule: &[u8], levels:
 
 /// "PC outside memory is a bus error, else the word that memory then holds
 /// there is fetched, decoded and executed."
-pub fn plain_step(memory: &mut [u8], cores: &mut [Core], who: usize) -> Step {
-    match exec::fetch(memory, cores[who].pc) {
+pub fn plain_step(memory: &mut Memory, cores: &mut [Core], who: usize) -> Step {
+    match exec::fetch(memory.bytes, cores[who].pc) {
         None => exec::fetch_fault(&mut cores[who]),
         Some(word) => exec::execute(cores, who, memory, isa::decode_insn(word)),
     }
@@ -166,14 +188,16 @@ pub fn fast_run(
     sheets: &mut [u32],
     schedule: &[u8],
     levels: &[u32],
+    limit: u32,
     table: &mut [u64],
 ) -> Answer {
-    let refusal = fast_refusal(memory, sheets, schedule, levels, table);
+    let refusal = fast_refusal(memory, sheets, schedule, levels, limit, table);
     if refusal != 0 {
         return Answer::refused(refusal);
     }
     let mut all = read_sheets(sheets);
     let cores = &mut all[..sheets.len() / SHEET_WORDS];
+    let memory = &mut Memory { bytes: memory, limit };
     let mut answer = Answer::default();
     for (&entry, &lines) in schedule.iter().zip(levels) {
         let who = usize::from(entry);
@@ -195,7 +219,7 @@ pub fn fast_run(
 /// a filled entry as it stands and not its word".
 #[inline]
 pub fn fast_step(
-    memory: &mut [u8],
+    memory: &mut Memory,
     cores: &mut [Core],
     who: usize,
     table: &mut [u64],
@@ -206,7 +230,7 @@ pub fn fast_step(
     };
     let reused = *entry != 0;
     if !reused {
-        *entry = isa::decode(word_of(&memory[pc as usize..pc as usize + 4]));
+        *entry = isa::decode(word_of(&memory.bytes[pc as usize..pc as usize + 4]));
     }
     let step = exec::execute(cores, who, memory, Insn::from_entry(*entry));
     if let Some(word) = step.stored {
@@ -223,15 +247,17 @@ pub fn fast_run_by_history(
     sheets: &mut [u32],
     schedule: &[u8],
     levels: &[u32],
+    limit: u32,
     table: &mut [u64],
 ) -> Answer {
-    let refusal = fast_refusal(memory, sheets, schedule, levels, table);
+    let refusal = fast_refusal(memory, sheets, schedule, levels, limit, table);
     if refusal != 0 {
         return Answer::refused(refusal);
     }
     let mut held: Vec<bool> = table.iter().map(|&entry| entry != 0).collect();
     let mut all = read_sheets(sheets);
     let cores = &mut all[..sheets.len() / SHEET_WORDS];
+    let memory = &mut Memory { bytes: memory, limit };
     let mut answer = Answer::default();
     for (&entry, &lines) in schedule.iter().zip(levels) {
         let who = usize::from(entry);
@@ -248,7 +274,7 @@ pub fn fast_run_by_history(
         }
     }
     write_sheets(cores, sheets);
-    write_table(memory, &held, table);
+    write_table(memory.bytes, &held, table);
     answer
 }
 

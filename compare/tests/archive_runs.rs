@@ -15,8 +15,9 @@ use compare::dump;
 use compare::engine::Archive;
 use compare::guard::Guarded;
 use compare::isa;
+use compare::limits;
 use compare::rng::Rng;
-use compare::runs::{MEMORY_LEAST, MEMORY_MOST, SCHEDULE_MOST};
+use compare::runs::{self, MEMORY_LEAST, MEMORY_MOST, SCHEDULE_MOST};
 use compare::state::{place, Core, IEE, SHEET_WORDS};
 use std::collections::BTreeMap;
 use std::ops::Range;
@@ -88,7 +89,7 @@ fn accepted_cases() {
         counts.lock().expect("no panic").watch(&case);
         PAIR.case(&case, 0).map_err(|text| format!("seed {seed}: {text}"))
     });
-    counts.into_inner().expect("no panic").expect("accepted cases", [50_000, 50_000, 12]);
+    counts.into_inner().expect("no panic").expect("accepted cases", 50_000, 50_000, 12);
 }
 
 /// Many short schedules: the edges of the cases themselves.
@@ -97,7 +98,7 @@ fn short_schedules() {
     for_seeds("short schedules", 2_000_000..2_030_000, |seed| PAIR.accepted_cases(one(seed), 8));
 }
 
-/// What a run left goes into the next one, which accepts it.
+/// What a run left goes into the next one, which accepts it and has its own limit.
 #[test]
 fn runs_on_what_the_last_left() {
     for_seeds("runs in a row", 3_000_000..3_004_000, |seed| {
@@ -107,20 +108,36 @@ fn runs_on_what_the_last_left() {
             PAIR.case(&case, 0).map_err(|text| format!("seed {seed}: {text}"))?;
             case = check::after_fast(PAIR.other, &case).case;
             case.throw_schedule(&mut rng, 200);
+            case.limit = limits::good(&mut rng.aside(), &case);
         }
         Ok(())
     });
 }
 
+/// What would be due beside a wrong limit, or 0; nothing, if the limit is good.
+fn beside_the_limit(case: &Case) -> Option<u8> {
+    let Case { memory, sheets, schedule, levels, limit, table } = case;
+    let wrong = !runs::limit_is_good(memory, *limit);
+    wrong.then(|| runs::fast_refusal(memory, sheets, schedule, levels, 0, table))
+}
+
 #[test]
 fn broken_cases() {
     let met: Mutex<BTreeMap<u8, u32>> = Mutex::default();
+    let beside: Mutex<BTreeMap<u8, u32>> = Mutex::default();
     for_seeds("broken cases", 4_000_000..4_040_000, |seed| {
-        let refusal = cases::broken_case(&mut Rng::new(seed)).1;
+        let (case, refusal) = cases::broken_case(&mut Rng::new(seed));
         *met.lock().expect("no panic").entry(refusal).or_default() += 1;
+        if let Some(other) = beside_the_limit(&case) {
+            *beside.lock().expect("no panic").entry(other).or_default() += 1;
+        }
         PAIR.broken_cases(one(seed))
     });
     let met = met.into_inner().expect("no panic");
+    let beside = beside.into_inner().expect("no panic");
+    show(&format!("broken cases, how many of each beside a wrong limit: {beside:?}"));
+    // Every other refusal, and none.
+    assert!(beside.len() == cases::ORDER.len() && beside.values().all(|&count| count > 400));
     show(&format!("broken cases, how many of each refusal: {met:?}"));
     assert!(cases::ORDER
         .iter()
@@ -159,6 +176,7 @@ fn memory_lengths() {
         case.memory.resize(bytes, 0);
         case.table = vec![0; bytes / 4];
         case.sheets[place::PC] = (bytes - 4 * rng.between(1, 12)) as u32;
+        case.limit = limits::good(&mut rng.aside(), &case);
         PAIR.case(&case, 0).map_err(|text| format!("seed {seed}: {text}"))
     });
 }
@@ -185,6 +203,7 @@ fn the_greatest_counts() {
             sheets: compare::card::reset_sheets(1, 0x100),
             schedule: vec![0; SCHEDULE_MOST],
             levels: vec![0; SCHEDULE_MOST],
+            limit: 0,
             table: vec![isa::decode(word); MEMORY_LEAST / 4],
         };
         if let Err(text) = PAIR.case(&case, 0) {
@@ -205,6 +224,7 @@ fn the_most_interrupts() {
         sheets: compare::card::reset_sheets(1, 0x100),
         schedule: vec![0; SCHEDULE_MOST],
         levels: vec![u32::MAX; SCHEDULE_MOST],
+        limit: 0,
         table: vec![0; MEMORY_LEAST / 4],
     };
     case.sheets[place::SR] |= IEE;
@@ -214,13 +234,14 @@ fn the_most_interrupts() {
     assert_eq!(check::after_fast(PAIR.other, &case).answer.raised, 32_768);
 }
 
-/// Zeros of these lengths, but for good sheets.
-fn lengths(memory: usize, sheets: &[u32], [entries, levels]: [usize; 2], table: usize) {
+/// Zeros of these lengths, but for good sheets, at a limit.
+fn lengths(memory: usize, sheets: &[u32], [entries, levels]: [usize; 2], limit: u32, table: usize) {
     let case = Case {
         memory: vec![0; memory],
         sheets: sheets.to_vec(),
         schedule: vec![0; entries],
         levels: vec![0; levels],
+        limit,
         table: vec![0; table],
     };
     if let Err(text) = check::same_case(PAIR.one, PAIR.other, &case) {
@@ -248,13 +269,53 @@ fn any_lengths() {
         for sheet_words in sheets {
             for entries in schedules {
                 for table in tables {
-                    lengths(memory, &vec![0; sheet_words], [entries, entries], table);
+                    lengths(memory, &vec![0; sheet_words], [entries, entries], 0, table);
                     let good = good_sheets(sheet_words);
-                    lengths(memory, &good, [entries, entries], table);
-                    lengths(memory, &good, [entries, 1], table);
+                    lengths(memory, &good, [entries, entries], 0, table);
+                    lengths(memory, &good, [entries, 1], 0, table);
                 }
             }
         }
+    }
+}
+
+/// Limits at the edges of each memory's length, with every other length right or not.
+#[test]
+fn any_limits() {
+    for memory in [0, 3, 4_092, 4_096, 4_097, 16_384, 1_048_576] {
+        let (bytes, good) = (memory as u32, good_sheets(2 * SHEET_WORDS));
+        let near = [0, 1, 2, 3, 4, bytes.wrapping_sub(4), bytes.wrapping_sub(1), bytes];
+        let past = [bytes + 1, bytes + 2, bytes + 4, 4 * bytes, 1 << 31, !3, u32::MAX];
+        for limit in [near.as_slice(), &past].concat() {
+            for (entries, levels) in [(0, 0), (7, 7), (7, 6), (65_537, 7)] {
+                for table in [memory / 4, 1] {
+                    lengths(memory, &good, [entries, levels], limit, table);
+                }
+            }
+            lengths(memory, &good[1..], [1, 1], limit, memory / 4);
+        }
+    }
+}
+
+/// A core that only stores where it may not: every entry raises, at both runs' most.
+#[test]
+fn the_most_refused_stores() {
+    // l.sw 0(r0),r0 everywhere, also at the vector.
+    let mut case = Case {
+        memory: u32::to_be_bytes(0xd400_0000).repeat(MEMORY_LEAST / 4),
+        sheets: compare::card::reset_sheets(1, 0x100),
+        schedule: vec![0; SCHEDULE_MOST],
+        levels: vec![0; SCHEDULE_MOST],
+        limit: 4,
+        table: vec![0; MEMORY_LEAST / 4],
+    };
+    for limit in [4, MEMORY_LEAST as u32] {
+        case.limit = limit;
+        if let Err(text) = PAIR.case(&case, 0) {
+            stop("most refused stores", &text);
+        }
+        let answer = check::after_fast(PAIR.other, &case).answer;
+        assert_eq!((answer.raised, answer.reused), (65_536, 65_534));
     }
 }
 
@@ -271,5 +332,5 @@ fn the_archive_keeps_nothing() {
         Archive.name()
     );
     let engine: &dyn Engine = &Archive;
-    assert_eq!(engine.plain_run(&mut [], &mut [], &[], &[]), 1 << 60);
+    assert_eq!(engine.plain_run(&mut [], &mut [], &[], &[], 0), 1 << 60);
 }

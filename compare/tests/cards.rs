@@ -328,7 +328,7 @@ fn good_cards_give_accepted_runs() {
         let sheets = card::reset_sheets(job.cores, job.entry);
         let table = vec![0; job.memory / 4];
         let (memory, levels) = (vec![0; job.memory], vec![0; job.schedule.len()]);
-        let refusal = runs::fast_refusal(&memory, &sheets, &job.schedule, &levels, &table);
+        let refusal = runs::fast_refusal(&memory, &sheets, &job.schedule, &levels, 0, &table);
         assert_eq!(refusal, 0, "seed {seed}");
     }
 }

@@ -38,6 +38,18 @@ const fn program(name: &'static str, check: fn(&Ran)) -> Program {
     Program { name, cores: &[1], raised: 0, refilled: 0, check }
 }
 
+impl Program {
+    /// A limit that makes no difference: the end of the code or, where the program
+    /// patches that, its start, so that the vectors alone are read-only.
+    fn limit(&self, image: &Image) -> u32 {
+        if self.refilled == 0 {
+            image.code_end()
+        } else {
+            image::TEXT
+        }
+    }
+}
+
 const ANY: [usize; 4] = [1, 2, 3, 4];
 
 const PROGRAMS: [Program; 11] = [
@@ -145,15 +157,17 @@ struct Way {
     entries: usize,
     /// A line is high once in so many entries; with 0 all lines are low.
     rare: usize,
+    limit: u32,
 }
 
 impl Way {
     fn start(&self, image: &Image) -> Case {
-        if self.rare == 0 {
+        let case = if self.rare == 0 {
             image.case(image::BYTES, self.cores)
         } else {
             image.clone().with_handler().interruptible(image::BYTES, self.cores)
-        }
+        };
+        Case { limit: self.limit, ..case }
     }
 
     /// Lines 0 and 1 now and then, and any masked ones.
@@ -204,14 +218,15 @@ fn manners(cores: usize) -> &'static [Manner] {
     }
 }
 
-/// Runs a program's image in every manner and checks what it left.
-fn run_image(program: &Program, file: &str, image: &Image) {
+/// Runs a program's image in every manner, by calls of these lengths and at a limit,
+/// and checks what it left.
+fn run_image(program: &Program, file: &str, image: &Image, calls: &[usize], limit: u32) {
     assert_code_is_legal(file, image);
     let (mut runs, mut executed) = (0, 0);
     for &cores in program.cores {
         for &manner in manners(cores) {
-            for entries in [SCHEDULE_MOST, 9_973] {
-                let way = Way { cores, manner, entries, rare: 0 };
+            for &entries in calls {
+                let way = Way { cores, manner, entries, rare: 0, limit };
                 let ran = run(file, image, way, program.raised);
                 assert_eq!(ran.raised, program.raised, "{file}");
                 assert_eq!(ran.refilled(), program.refilled, "{file}");
@@ -221,7 +236,7 @@ fn run_image(program: &Program, file: &str, image: &Image) {
             }
         }
     }
-    show(&format!("{file}: right {runs} times, {executed} instructions in all"));
+    show(&format!("{file}: right {runs} times at {limit:x}, {executed} instructions in all"));
 }
 
 /// Lamp changes while the program runs: the same results.
@@ -229,7 +244,7 @@ fn run_interrupted(program: &Program, file: &str, image: &Image) {
     let (mut executed, mut interrupts) = (0, 0);
     for &cores in program.cores {
         for &manner in manners(cores) {
-            let way = Way { cores, manner, entries: 9_973, rare: 40 };
+            let way = Way { cores, manner, entries: 9_973, rare: 40, limit: 0 };
             let ran = run(file, image, way, program.raised);
             assert_eq!(ran.refilled(), program.refilled, "{file}");
             (program.check)(&ran);
@@ -254,7 +269,7 @@ fn stored_images_with_interrupts() {
 fn run_folder(folder: &Path, program: &Program) {
     for suffix in SUFFIXES {
         let file = format!("{}{suffix}", program.name);
-        run_image(program, &file, &Image::load(folder, &file));
+        run_image(program, &file, &Image::load(folder, &file), &[SCHEDULE_MOST, 9_973], 0);
     }
 }
 
@@ -262,6 +277,39 @@ fn run_folder(folder: &Path, program: &Program) {
 fn stored_images() {
     for program in &PROGRAMS {
         run_folder(&image::folder(), program);
+    }
+}
+
+/// A read-only start of memory: the same results, exceptions and fetches.
+#[test]
+fn stored_images_with_a_limit() {
+    for program in &PROGRAMS {
+        for suffix in SUFFIXES {
+            let file = format!("{}{suffix}", program.name);
+            let image = Image::load(&image::folder(), &file);
+            run_image(program, &file, &image, &[SCHEDULE_MOST], program.limit(&image));
+        }
+    }
+}
+
+/// With all code read-only a program that patches it stops at its first patch: the
+/// start file halts the core.
+#[test]
+fn patches_of_read_only_code() {
+    for program in PROGRAMS.iter().filter(|program| program.refilled != 0) {
+        for suffix in SUFFIXES {
+            let file = format!("{}{suffix}", program.name);
+            let image = Image::load(&image::folder(), &file);
+            let limit = image.code_end();
+            let way =
+                Way { cores: 1, manner: Manner::Turns, entries: SCHEDULE_MOST, rare: 0, limit };
+            let ran = run(&file, &image, way, 1);
+            let (result, failing) = (ran.result(0), ran.case.sheets[place::EEAR]);
+            assert_eq!((ran.raised, result >> 16), (1, 0xdead), "{file}");
+            assert!((image::TEXT..limit).contains(&failing), "{file}: {failing:x}");
+            let code = image.code().all(|index| ran.case.word(index) == image.words[index]);
+            assert!(code, "{file}: code was written");
+        }
     }
 }
 

@@ -13,8 +13,8 @@ use compare::state::{place, OV, OVE, SHEET_WORDS};
 
 type Decode = fn(u32) -> u64;
 type Encode = fn(u64) -> u64;
-type Plain = fn(&mut [u8], &mut [u32], &[u8], &[u32]) -> u64;
-type Fast = fn(&mut [u8], &mut [u32], &[u8], &[u32], &mut [u64]) -> u64;
+type Plain = fn(&mut [u8], &mut [u32], &[u8], &[u32], u32) -> u64;
+type Fast = fn(&mut [u8], &mut [u32], &[u8], &[u32], u32, &mut [u64]) -> u64;
 
 struct False {
     name: &'static str,
@@ -43,8 +43,9 @@ impl Engine for False {
         sheets: &mut [u32],
         schedule: &[u8],
         levels: &[u32],
+        limit: u32,
     ) -> u64 {
-        (self.plain)(memory, sheets, schedule, levels)
+        (self.plain)(memory, sheets, schedule, levels, limit)
     }
     fn fast_run(
         &self,
@@ -52,9 +53,10 @@ impl Engine for False {
         sheets: &mut [u32],
         schedule: &[u8],
         levels: &[u32],
+        limit: u32,
         table: &mut [u64],
     ) -> u64 {
-        (self.fast)(memory, sheets, schedule, levels, table)
+        (self.fast)(memory, sheets, schedule, levels, limit, table)
     }
 }
 
@@ -63,9 +65,11 @@ const TRUE: False = False {
     name: "true",
     decode: |word| BY_CACHE.decode(word),
     encode: |entry| BY_CACHE.encode(entry),
-    plain: |memory, sheets, schedule, levels| BY_CACHE.plain_run(memory, sheets, schedule, levels),
-    fast: |memory, sheets, schedule, levels, table| {
-        BY_CACHE.fast_run(memory, sheets, schedule, levels, table)
+    plain: |memory, sheets, schedule, levels, limit| {
+        BY_CACHE.plain_run(memory, sheets, schedule, levels, limit)
+    },
+    fast: |memory, sheets, schedule, levels, limit, table| {
+        BY_CACHE.fast_run(memory, sheets, schedule, levels, limit, table)
     },
 };
 
@@ -88,15 +92,15 @@ fn exchange(sheets: &mut [u32]) {
 const WRONG_RUNS: [False; 8] = [
     False {
         name: "has MACLO before MACHI on a sheet",
-        plain: |memory, sheets, schedule, levels| {
+        plain: |memory, sheets, schedule, levels, limit| {
             exchange(sheets);
-            let answer = BY_CACHE.plain_run(memory, sheets, schedule, levels);
+            let answer = BY_CACHE.plain_run(memory, sheets, schedule, levels, limit);
             exchange(sheets);
             answer
         },
-        fast: |memory, sheets, schedule, levels, table| {
+        fast: |memory, sheets, schedule, levels, limit, table| {
             exchange(sheets);
-            let answer = BY_CACHE.fast_run(memory, sheets, schedule, levels, table);
+            let answer = BY_CACHE.fast_run(memory, sheets, schedule, levels, limit, table);
             exchange(sheets);
             answer
         },
@@ -104,9 +108,9 @@ const WRONG_RUNS: [False; 8] = [
     },
     False {
         name: "never fills the table",
-        fast: |memory, sheets, schedule, levels, table| {
+        fast: |memory, sheets, schedule, levels, limit, table| {
             let kept = table.to_vec();
-            let answer = BY_CACHE.fast_run(memory, sheets, schedule, levels, table);
+            let answer = BY_CACHE.fast_run(memory, sheets, schedule, levels, limit, table);
             table.copy_from_slice(&kept);
             answer
         },
@@ -114,8 +118,8 @@ const WRONG_RUNS: [False; 8] = [
     },
     False {
         name: "invents a reused count",
-        fast: |memory, sheets, schedule, levels, table| {
-            let answer = BY_CACHE.fast_run(memory, sheets, schedule, levels, table);
+        fast: |memory, sheets, schedule, levels, limit, table| {
+            let answer = BY_CACHE.fast_run(memory, sheets, schedule, levels, limit, table);
             // One more whenever anything was raised.
             answer + ((answer >> 20 & 0xf_ffff).min(1) << 40)
         },
@@ -123,46 +127,46 @@ const WRONG_RUNS: [False; 8] = [
     },
     False {
         name: "runs the first entry and idles",
-        plain: |memory, sheets, schedule, levels| {
+        plain: |memory, sheets, schedule, levels, limit| {
             let first = schedule.len().min(1);
-            BY_CACHE.plain_run(memory, sheets, &schedule[..first], &levels[..first])
+            BY_CACHE.plain_run(memory, sheets, &schedule[..first], &levels[..first], limit)
         },
-        fast: |memory, sheets, schedule, levels, table| {
+        fast: |memory, sheets, schedule, levels, limit, table| {
             let first = schedule.len().min(1);
-            BY_CACHE.fast_run(memory, sheets, &schedule[..first], &levels[..first], table)
+            BY_CACHE.fast_run(memory, sheets, &schedule[..first], &levels[..first], limit, table)
         },
         ..TRUE
     },
     False {
         name: "halts a core before its l.nop 1",
-        plain: |memory, sheets, schedule, levels| {
+        plain: |memory, sheets, schedule, levels, limit| {
             let before = sheets.to_vec();
-            let answer = BY_CACHE.plain_run(memory, sheets, schedule, levels);
+            let answer = BY_CACHE.plain_run(memory, sheets, schedule, levels, limit);
             halt_early(sheets, &before);
             answer
         },
-        fast: |memory, sheets, schedule, levels, table| {
+        fast: |memory, sheets, schedule, levels, limit, table| {
             let before = sheets.to_vec();
-            let answer = BY_CACHE.fast_run(memory, sheets, schedule, levels, table);
+            let answer = BY_CACHE.fast_run(memory, sheets, schedule, levels, limit, table);
             halt_early(sheets, &before);
             answer
         },
         ..TRUE
     },
-    False { name: "idles", plain: |_, _, _, _| 0, fast: |_, _, _, _, _| 0, ..TRUE },
+    False { name: "idles", plain: |_, _, _, _, _| 0, fast: |_, _, _, _, _, _| 0, ..TRUE },
     False {
         name: "turns everyone back",
-        plain: |_, _, _, _| 1 << 60,
-        fast: |_, _, _, _, _| 1 << 60,
+        plain: |_, _, _, _, _| 1 << 60,
+        fast: |_, _, _, _, _, _| 1 << 60,
         ..TRUE
     },
     False {
         name: "turns a filled table back",
-        fast: |memory, sheets, schedule, levels, table| {
+        fast: |memory, sheets, schedule, levels, limit, table| {
             if table.iter().all(|&entry| entry != 0) {
                 return 7 << 60;
             }
-            BY_CACHE.fast_run(memory, sheets, schedule, levels, table)
+            BY_CACHE.fast_run(memory, sheets, schedule, levels, limit, table)
         },
         ..TRUE
     },
@@ -230,8 +234,8 @@ fn wrong_immediate_sums_are_stopped() {
 fn a_run_that_writes_before_it_refuses_is_stopped() {
     let engine = False {
         name: "writes before it refuses",
-        fast: |memory, sheets, schedule, levels, table| {
-            let answer = BY_CACHE.fast_run(memory, sheets, schedule, levels, table);
+        fast: |memory, sheets, schedule, levels, limit, table| {
+            let answer = BY_CACHE.fast_run(memory, sheets, schedule, levels, limit, table);
             if answer >> 60 == 7 {
                 table[0] ^= 1;
             }
@@ -264,21 +268,25 @@ fn widened(sheets: &mut [u32], old: usize, run: impl FnOnce(&mut [u32]) -> u64) 
 const OLD_SHEETS: [False; 2] = [
     False {
         name: "takes sheets of 42 words",
-        plain: |memory, sheets, schedule, levels| {
-            widened(sheets, 42, |wide| BY_CACHE.plain_run(memory, wide, schedule, levels))
+        plain: |memory, sheets, schedule, levels, limit| {
+            widened(sheets, 42, |wide| BY_CACHE.plain_run(memory, wide, schedule, levels, limit))
         },
-        fast: |memory, sheets, schedule, levels, table| {
-            widened(sheets, 42, |wide| BY_CACHE.fast_run(memory, wide, schedule, levels, table))
+        fast: |memory, sheets, schedule, levels, limit, table| {
+            widened(sheets, 42, |wide| {
+                BY_CACHE.fast_run(memory, wide, schedule, levels, limit, table)
+            })
         },
         ..TRUE
     },
     False {
         name: "takes sheets of 44 words",
-        plain: |memory, sheets, schedule, levels| {
-            widened(sheets, 44, |wide| BY_CACHE.plain_run(memory, wide, schedule, levels))
+        plain: |memory, sheets, schedule, levels, limit| {
+            widened(sheets, 44, |wide| BY_CACHE.plain_run(memory, wide, schedule, levels, limit))
         },
-        fast: |memory, sheets, schedule, levels, table| {
-            widened(sheets, 44, |wide| BY_CACHE.fast_run(memory, wide, schedule, levels, table))
+        fast: |memory, sheets, schedule, levels, limit, table| {
+            widened(sheets, 44, |wide| {
+                BY_CACHE.fast_run(memory, wide, schedule, levels, limit, table)
+            })
         },
         ..TRUE
     },

@@ -3,7 +3,8 @@
 
 mod common;
 
-use common::wrong_interrupt::{enter, Turn, WrongInterrupt, WrongRefusal, RIGHT};
+use common::wrong_interrupt::{enter, WrongInterrupt, RIGHT};
+use common::wrong_refusal::{self, Turn, WrongRefusal};
 use common::wrong_step::{assert_passed, assert_stopped, wrong, Taken, WrongStep};
 use compare::battery::Pair;
 use compare::check::{Codec, Engine, BY_CACHE, BY_HISTORY};
@@ -336,14 +337,14 @@ const WRONG_REFUSALS: [WrongRefusal; 9] = [
     },
     WrongRefusal {
         name: "has 11 after 6",
-        turn: |lent| match (lent.due, lent.otherwise) {
+        turn: |lent| match (lent.due, lent.with_levels) {
             (11, 6) => Turn::Refuse(6),
             _ => Turn::Right,
         },
     },
     WrongRefusal {
         name: "has 11 after 7",
-        turn: |lent| match (lent.due, lent.otherwise) {
+        turn: |lent| match (lent.due, lent.with_levels) {
             (11, 7) => Turn::Refuse(7),
             _ => Turn::Right,
         },
@@ -387,14 +388,7 @@ const WRONG_REFUSALS: [WrongRefusal; 9] = [
 
 #[test]
 fn wrong_refusals_of_levels_are_stopped() {
-    for engine in &WRONG_REFUSALS {
-        let pair = Pair { one: &BY_HISTORY, other: engine };
-        let asked = pair.broken_cases(0..3_000).and_then(|()| pair.accepted_cases(0..300, 10));
-        assert!(asked.is_err(), "{}", engine.name);
-    }
-    let right = WrongRefusal { name: "right", turn: |_| Turn::Right };
-    let pair = Pair { one: &BY_HISTORY, other: &right };
-    assert_eq!(pair.broken_cases(0..300), Ok(()));
+    wrong_refusal::assert_stopped(&WRONG_REFUSALS);
 }
 
 /// Engines whose sheets are others than the note's.
@@ -438,8 +432,9 @@ impl Engine for WrongSheet {
         sheets: &mut [u32],
         schedule: &[u8],
         levels: &[u32],
+        limit: u32,
     ) -> u64 {
-        self.around(sheets, |sheets| BY_CACHE.plain_run(memory, sheets, schedule, levels))
+        self.around(sheets, |sheets| BY_CACHE.plain_run(memory, sheets, schedule, levels, limit))
     }
     fn fast_run(
         &self,
@@ -447,9 +442,12 @@ impl Engine for WrongSheet {
         sheets: &mut [u32],
         schedule: &[u8],
         levels: &[u32],
+        limit: u32,
         table: &mut [u64],
     ) -> u64 {
-        self.around(sheets, |sheets| BY_CACHE.fast_run(memory, sheets, schedule, levels, table))
+        self.around(sheets, |sheets| {
+            BY_CACHE.fast_run(memory, sheets, schedule, levels, limit, table)
+        })
     }
 }
 

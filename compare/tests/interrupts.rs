@@ -3,77 +3,23 @@
 
 mod common;
 
+use common::short::{self, core_after, core_of, counts, full, put, run, NOP, RFE, SR};
 use common::{asm, engines, BYTES};
 use compare::card;
 use compare::cases::Case;
-use compare::check::{self, Left};
+use compare::check;
 use compare::isa::{self, Kind};
 use compare::runs::Answer;
-use compare::state::{place, Core, CY, DSX, F, IEE, OV, OVE, SHEET_WORDS, SM, TEE};
+use compare::state::{place, Core, CY, DSX, F, IEE, OV, SHEET_WORDS, SM};
 
-const SR: u32 = 0x8001;
-const NOP: u32 = 0x1500_0000;
-const RFE: u32 = 0x2400_0000;
 const PICMR: u32 = 0x4800;
 const PICSR: u32 = 0x4802;
 
-/// l.nop everywhere but for code from 100 on; one core there with IEE, and an
-/// entry for each word of levels.
+/// A short run's case, its core with IEE.
 fn case(code: &[u32], levels: &[u32]) -> Case {
-    let mut case = Case {
-        memory: NOP.to_be_bytes().repeat(BYTES / 4),
-        sheets: card::reset_sheets(1, 0x100),
-        schedule: vec![0; levels.len()],
-        levels: levels.to_vec(),
-        table: vec![0; BYTES / 4],
-    };
-    put(&mut case, 0x100, code);
+    let mut case = short::case(code, levels);
     case.sheets[place::SR] |= IEE;
     case
-}
-
-fn put(case: &mut Case, address: usize, words: &[u32]) {
-    for (index, &word) in words.iter().enumerate() {
-        case.set_word(address / 4 + index, word);
-    }
-}
-
-/// What every engine's fast run leaves; the plain one agrees.
-fn run(case: &Case) -> Left {
-    let all = engines();
-    let first = check::after_both(all[0], case);
-    assert_eq!(first.fast.answer.refusal, 0);
-    for engine in all {
-        let left = check::after_both(engine, case);
-        check::same_left(["first", engine.name()], case, &first, &left).unwrap();
-        check::left_as_promised(engine.name(), case, &left).unwrap();
-    }
-    first.fast
-}
-
-fn core_of(left: &Left, number: usize) -> Core {
-    Core::from_sheet(&left.case.sheets[number * SHEET_WORDS..][..SHEET_WORDS])
-}
-
-/// The core after a run of one.
-fn core_after(case: &Case) -> Core {
-    core_of(&run(case), 0)
-}
-
-fn counts(left: &Left) -> (u32, u32, u32) {
-    let Answer { executed, raised, reused, .. } = left.answer;
-    (executed, raised, reused)
-}
-
-/// A core with something everywhere.
-fn full() -> Core {
-    let mut core = Core::reset(0x100);
-    core.regs.iter_mut().zip(0..).for_each(|(register, number)| *register = 3 * number);
-    core.sr = 0x8000 | TEE | IEE | F | CY | OV | OVE | DSX;
-    (core.epcr, core.eear, core.esr) = (0x44, 0x35, SR);
-    (core.link, core.link_address) = (true, 0x40);
-    (core.machi, core.maclo, core.picmr) = (5, 6, 0xff);
-    core
 }
 
 /// "takes vector 800 in place of a fetch, with EPCR = PC and EEAR kept"; ESR, SR,

@@ -82,7 +82,7 @@ fn examples_of_the_refusals() {
     let mut filled = table.clone();
     filled[0] = 1 << 56;
     let refusal = |memory: &[u8], sheets: &[u32], schedule: &[u8], table: &[u64]| {
-        runs::fast_refusal(memory, sheets, schedule, &vec![0; schedule.len()], table)
+        runs::fast_refusal(memory, sheets, schedule, &vec![0; schedule.len()], 0, table)
     };
     assert_eq!(refusal(&memory, &good, &[0], &table), 0);
     assert_eq!(refusal(&vec![0; 4_098], &good, &[0], &table), 1);
@@ -94,6 +94,7 @@ fn examples_of_the_refusals() {
     assert_eq!(refusal(&memory, &good, &[1], &table), 5);
     assert_eq!(refusal(&memory, &good, &[0], &table[..1_023]), 6);
     assert_eq!(refusal(&memory, &good, &[0], &filled), 7);
-    assert_eq!(runs::fast_refusal(&memory, &good, &[0], &[], &table), 11);
+    assert_eq!(runs::fast_refusal(&memory, &good, &[0], &[], 0, &table), 11);
+    assert_eq!(runs::fast_refusal(&memory, &good, &[0], &[0], 2, &table), 12);
     assert_eq!(isa::encode(0), 1 << 32);
 }

@@ -10,7 +10,7 @@ use compare::check;
 use compare::exec::Cause;
 use compare::isa::{self, Kind};
 use compare::rng::Rng;
-use compare::runs::{self, Answer};
+use compare::runs::Answer;
 use compare::state::{place, Core, CY, DSX, F, IEE, OV, OVE, TEE};
 
 const SR: u32 = 0x8001;
@@ -236,6 +236,7 @@ fn counts_of_products() {
                 sheets: card::reset_sheets(1, 0x100),
                 schedule: vec![0],
                 levels: vec![0],
+                limit: 0,
                 table: vec![0; BYTES / 4],
             };
             case.set_word(0x100 / 4, word_of(kind, 5, y));
@@ -380,6 +381,7 @@ fn places_on_a_sheet() {
         sheets: card::reset_sheets(2, 0x100),
         schedule: vec![1],
         levels: vec![0],
+        limit: 0,
         table: vec![0; BYTES / 4],
     };
     assert_eq!((case.sheets.len(), &case.sheets[42..44]), (92, [0, 0].as_slice()));
@@ -476,7 +478,7 @@ fn the_fast_step_executes_the_entry() {
     bench.put(0x100, 0x1500_0001);
     let mut table = vec![0; BYTES / 4];
     table[0x40] = isa::decode(word_of(Kind::Mul, 5, 0));
-    let (step, reused) = runs::fast_step(&mut bench.memory, &mut bench.cores, 0, &mut table);
+    let (step, reused) = bench.fast_step(0, &mut table);
     assert_eq!((step.raised, reused), (None, true));
     assert_eq!((bench.cores[0].regs[5], bench.cores[0].running), (42, true));
 }

@@ -790,6 +790,7 @@ fn case_of(result: &Outcome) -> Case {
         sheets: reset_sheets(1, START),
         schedule: vec![0; result.code.len()],
         levels: result.lines.clone(),
+        limit: 0,
         table: vec![0; bytes / 4],
     };
     case.levels.resize(result.code.len(), 0);

@@ -8,7 +8,7 @@ use compare::battery::Pair;
 use compare::cases::{self, Case};
 use compare::check::{self, Codec, BY_CACHE, BY_HISTORY};
 use compare::dump;
-use compare::exec::{self, Cause};
+use compare::exec::{self, Cause, Memory};
 use compare::isa::{self, Kind};
 use compare::rng::Rng;
 use compare::runs;
@@ -33,7 +33,7 @@ fn accepted_cases() {
         counts.watch(&case);
         expect(PAIR.case(&case, 0).map_err(|text| format!("seed {seed}: {text}")));
     }
-    counts.expect("accepted cases", [5_000, 2_500, 1]);
+    counts.expect("accepted cases", 5_000, 2_500, 1);
 }
 
 #[test]
@@ -113,7 +113,7 @@ struct Reached {
 }
 
 fn watch(case: &Case, reached: &mut Reached) {
-    let mut memory = case.memory.clone();
+    let memory = &mut Memory { bytes: &mut case.memory.clone(), limit: case.limit };
     let mut table = case.table.clone();
     let mut cores: Vec<Core> = case.sheets.chunks(SHEET_WORDS).map(Core::from_sheet).collect();
     for (&entry, &lines) in case.schedule.iter().zip(&case.levels) {
@@ -124,13 +124,13 @@ fn watch(case: &Case, reached: &mut Reached) {
         }
         match exec::interrupt(&mut cores[who], lines) {
             Some(step) => reached.raised.extend(step.raised.map(|cause| (cause, slot))),
-            None => watch_step(&mut memory, &mut table, &mut cores, who, reached),
+            None => watch_step(memory, &mut table, &mut cores, who, reached),
         }
     }
 }
 
 fn watch_step(
-    memory: &mut [u8],
+    memory: &mut Memory,
     table: &mut [u64],
     cores: &mut [Core],
     who: usize,
@@ -138,9 +138,10 @@ fn watch_step(
 ) {
     let before = cores.to_vec();
     let core = &before[who];
-    let kind = exec::fetch(memory, core.pc).map(|word| isa::decode_insn(word).kind);
+    let kind = exec::fetch(memory.bytes, core.pc).map(|word| isa::decode_insn(word).kind);
     let store = matches!(kind, Some(Kind::Sw | Kind::Sb | Kind::Sh | Kind::Swa));
-    let (held, old) = if store { (table.to_vec(), memory.to_vec()) } else { (vec![], vec![]) };
+    let (held, old) =
+        if store { (table.to_vec(), memory.bytes.to_vec()) } else { (vec![], vec![]) };
     let (step, reused) = runs::fast_step(memory, cores, who, table);
     reached.kinds.extend(kind);
     reached.raised.extend(step.raised.map(|cause| (cause, core.delay)));
@@ -155,7 +156,7 @@ fn watch_step(
     if let Some(word) = step.stored {
         reached.own_word += u32::from(word == core.pc);
         reached.filled_word += u32::from(held[word as usize / 4] != 0);
-        reached.equal_value += u32::from(old == memory);
+        reached.equal_value += u32::from(old == memory.bytes);
         let lost = |(now, then): (&Core, &Core)| then.link && !now.link;
         let others = cores.iter().zip(&before).enumerate().filter(|(index, _)| *index != who);
         reached.lost_links += others.filter(|(_, pair)| lost(*pair)).count() as u32;

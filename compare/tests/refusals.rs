@@ -17,6 +17,7 @@ fn good(cores: usize, bytes: usize) -> Case {
         sheets: reset_sheets(cores, 0x100),
         schedule: vec![0, (cores - 1) as u8],
         levels: vec![0; 2],
+        limit: 0,
         table: vec![0; memory.len() / 4],
         memory,
     }
@@ -48,6 +49,8 @@ fn packed_answers() {
     assert_eq!(Answer::unpack(7 << 60), Answer::refused(7));
     assert_eq!(Answer::refused(11).pack(), 11 << 60);
     assert_eq!(Answer::unpack(11 << 60), Answer::refused(11));
+    assert_eq!(Answer::refused(12).pack(), 12 << 60);
+    assert_eq!(Answer::unpack(12 << 60), Answer::refused(12));
 }
 
 #[test]
@@ -245,6 +248,68 @@ fn refusal_11_among_the_others() {
     }
 }
 
+/// Limits that are no multiple of 4 or exceed so many bytes of memory.
+fn wrong_limits(bytes: u32) -> Vec<u32> {
+    let near = [1, 2, 3, 5, bytes - 3, bytes - 2, bytes - 1, bytes + 1, bytes + 2, bytes + 3];
+    let past = [bytes + 4, 2 * bytes, 4 * bytes, 0x10_0004, 0x8000_0000, 0xffff_fffc, u32::MAX];
+    [near.as_slice(), &past].concat()
+}
+
+/// 02, note 5: "refuses with 12, after 11, a limit that is no multiple of 4 or
+/// exceeds memory". Memory's own length does not exceed it.
+#[test]
+fn refusal_12_limits() {
+    for bytes in [4_096, 4_100, 16_384, 1_048_576] {
+        let mut case = good(2, bytes as usize);
+        for limit in [0, 4, 8, 0x100, (bytes / 2) & !3, bytes - 4, bytes] {
+            case.limit = limit;
+            assert_eq!(refusals(&case), (0, 0), "{limit} of {bytes}");
+        }
+        for limit in wrong_limits(bytes) {
+            case.limit = limit;
+            assert_eq!(refusals(&case), (12, 12), "{limit} of {bytes}");
+        }
+    }
+    // A limit for the largest memory is one for the largest memory alone.
+    let mut case = good(1, 1_048_572);
+    case.limit = 1_048_576;
+    assert_eq!(refusals(&case), (12, 12));
+}
+
+/// The limit is tested though nothing is stored: by an empty schedule or halted cores.
+#[test]
+fn refusal_12_without_stores() {
+    for limit in [2, 4_100] {
+        let mut case = good(1, 4_096);
+        case.limit = limit;
+        case.set_schedule(vec![]);
+        assert_eq!(refusals(&case), (12, 12), "{limit}");
+        case.set_schedule(vec![0; 3]);
+        case.sheets[place::MODE] = 0;
+        assert_eq!(refusals(&case), (12, 12), "{limit}");
+    }
+}
+
+/// 1 to 5 and 11 come before 12; 6 and 7 come after it, and the plain run, which has
+/// no table, has 12 too.
+#[test]
+fn refusal_12_among_the_others() {
+    for limit in wrong_limits(4_096) {
+        for other in [1, 2, 3, 4, 5, 11] {
+            let mut case = good(2, 4_096);
+            case.limit = limit;
+            break_by(&mut case, other);
+            assert_eq!(refusals(&case), (other, other), "{limit}");
+        }
+        for other in [6, 7] {
+            let mut case = good(2, 4_096);
+            case.limit = limit;
+            break_by(&mut case, other);
+            assert_eq!(refusals(&case), (12, 12), "{limit}");
+        }
+    }
+}
+
 #[test]
 fn refusals_6_and_7_concern_the_fast_run_alone() {
     for entries in [0, 1, 1_023, 1_025, 4_096] {
@@ -273,6 +338,7 @@ fn break_by(case: &mut Case, refusal: u8) {
         4 => case.schedule.resize(65_537, 0),
         5 => case.schedule[0] = 4,
         11 => case.levels.push(0),
+        12 => case.limit = 2,
         6 => case.table.push(0),
         _ => case.table[5] = 1,
     }
@@ -280,11 +346,11 @@ fn break_by(case: &mut Case, refusal: u8) {
 
 #[test]
 fn refusals_are_tested_in_order() {
-    const ORDER: [u8; 8] = [1, 2, 3, 4, 5, 11, 6, 7];
-    for set in 1u32..256 {
+    const ORDER: [u8; 9] = [1, 2, 3, 4, 5, 11, 12, 6, 7];
+    for set in 1u32..512 {
         let mut case = good(2, 4_096);
         let met: Vec<u8> =
-            (0..8).filter(|place| set >> place & 1 == 1).map(|place| ORDER[place]).collect();
+            (0..9).filter(|place| set >> place & 1 == 1).map(|place| ORDER[place]).collect();
         for &refusal in &met {
             break_by(&mut case, refusal);
         }

@@ -9,7 +9,7 @@ use compare::check;
 use compare::exec::Cause;
 use compare::isa::{self, Kind};
 use compare::rng::Rng;
-use compare::runs::{self, Answer};
+use compare::runs::Answer;
 use compare::state::{place, CY, DSX, F, IEE, OV, OVE, SM, TEE};
 
 const SR: u32 = 0x8001;
@@ -234,6 +234,7 @@ fn counts_of_sums() {
                 sheets: card::reset_sheets(1, 0x100),
                 schedule: vec![0],
                 levels: vec![0],
+                limit: 0,
                 table: vec![0; BYTES / 4],
             };
             case.set_word(0x100 / 4, sum_word(kind, 5, y));
@@ -704,7 +705,7 @@ fn the_fast_step_executes_the_entry() {
     bench.put(0x100, 0x1500_0001);
     let mut table = vec![0; BYTES / 4];
     table[0x40] = isa::decode(0x9c60_0005);
-    let (step, reused) = runs::fast_step(&mut bench.memory, &mut bench.cores, 0, &mut table);
+    let (step, reused) = bench.fast_step(0, &mut table);
     assert_eq!((step.raised, reused), (None, true));
     assert_eq!((bench.cores[0].regs[3], bench.cores[0].running), (5, true));
     assert_eq!(table[0x40], isa::decode(0x9c60_0005));

@@ -103,6 +103,7 @@ fn case(words: &[u32], bytes: usize, cores: usize) -> Case {
         sheets: reset_sheets(cores, 0),
         schedule: vec![],
         levels: vec![],
+        limit: 0,
         table: vec![0; bytes / 4],
     };
     for (index, &word) in words.iter().enumerate() {
@@ -294,12 +295,12 @@ fn time(work: &Work, engine: &dyn Engine, run: Run) -> Duration {
     if let Run::Fast { full: true } = run {
         case.table.copy_from_slice(&work.full_cache);
     }
-    let Case { memory, sheets, table, .. } = &mut case;
+    let Case { memory, sheets, limit, table, .. } = &mut case;
     let start = Instant::now();
     for Call { schedule, levels } in &work.calls {
         let answer = match run {
-            Run::Plain => engine.plain_run(memory, sheets, schedule, levels),
-            Run::Fast { .. } => engine.fast_run(memory, sheets, schedule, levels, table),
+            Run::Plain => engine.plain_run(memory, sheets, schedule, levels, *limit),
+            Run::Fast { .. } => engine.fast_run(memory, sheets, schedule, levels, *limit, table),
         };
         assert_eq!(answer >> 60, 0, "refused");
     }

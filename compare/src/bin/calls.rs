@@ -1,5 +1,5 @@
-//! Makes fast calls of the greatest length, one core, all lines low, on a compiled
-//! program and prints how many instructions they executed: `calls sieve 2`.
+//! Makes fast calls of the greatest length, one core, all lines low and no limit, on
+//! a compiled program and prints how many instructions they executed: `calls sieve 2`.
 //! `count` runs it under valgrind.
 
 use compare::cases::Case;
@@ -16,8 +16,8 @@ fn main() {
     case.set_schedule(vec![0; SCHEDULE_MOST]);
     let mut executed = 0;
     for _ in 0..calls {
-        let Case { memory, sheets, schedule, levels, table } = &mut case;
-        let answer = Archive.fast_run(memory, sheets, schedule, levels, table);
+        let Case { memory, sheets, schedule, levels, limit, table } = &mut case;
+        let answer = Archive.fast_run(memory, sheets, schedule, levels, *limit, table);
         assert_eq!(answer >> 60, 0, "refused");
         executed += answer & 0xfffff;
     }

@@ -4,16 +4,19 @@
 
 pub mod fields;
 pub mod interrupts;
+pub mod limits;
 pub mod list;
 pub mod products;
 pub mod registration;
+pub mod short;
 pub mod sums;
 pub mod watch;
 pub mod wrong_interrupt;
+pub mod wrong_refusal;
 pub mod wrong_step;
 
 use compare::check::{Engine, BY_CACHE, BY_HISTORY};
-use compare::exec::Step;
+use compare::exec::{Memory, Step};
 use compare::isa::{self, Insn, Kind};
 use compare::runs;
 use compare::state::Core;
@@ -37,12 +40,13 @@ pub fn engines() -> Vec<&'static dyn Engine> {
 pub struct Bench {
     pub memory: Vec<u8>,
     pub cores: Vec<Core>,
+    pub limit: u32,
 }
 
 impl Bench {
     /// Cores just reset at address 100 (hexadecimal).
     pub fn new(cores: usize) -> Bench {
-        Bench { memory: vec![0; BYTES], cores: vec![Core::reset(0x100); cores] }
+        Bench { memory: vec![0; BYTES], cores: vec![Core::reset(0x100); cores], limit: 0 }
     }
 
     pub fn word(&self, address: usize) -> u32 {
@@ -62,7 +66,14 @@ impl Bench {
     }
 
     pub fn step(&mut self, who: usize) -> Step {
-        runs::plain_step(&mut self.memory, &mut self.cores, who)
+        let memory = &mut Memory { bytes: &mut self.memory, limit: self.limit };
+        runs::plain_step(memory, &mut self.cores, who)
+    }
+
+    /// The step under the fast run, and whether it counts as reused.
+    pub fn fast_step(&mut self, who: usize, table: &mut [u64]) -> (Step, bool) {
+        let memory = &mut Memory { bytes: &mut self.memory, limit: self.limit };
+        runs::fast_step(memory, &mut self.cores, who, table)
     }
 }
 

@@ -1,10 +1,12 @@
 //! The steps of a case's run, for those who count them.
 
 use super::interrupts::Interrupts;
+use super::limits::Limits;
 use super::products::Products;
 use super::sums::Sums;
 use compare::cases::Case;
-use compare::exec::{self, Cause};
+use compare::exec::{self, Cause, Memory, Step};
+use compare::isa::Kind::{Cflush, Cinvalidate, Lhs, Lwa, Sh, Swa};
 use compare::isa::{self, Insn};
 use compare::runs;
 use compare::state::{Core, SHEET_WORDS};
@@ -30,14 +32,42 @@ pub struct Entry {
     /// Another core stands at the same place.
     pub shared: bool,
     pub raised: Option<Cause>,
+    /// What the instruction, if it is fetched, reaches.
+    pub access: Option<Access>,
 }
 
-/// What notes 1, 2 and 4 of document 02 tell apart.
+/// What a step may change of a word.
+#[derive(Clone, Copy, PartialEq)]
+pub struct Word {
+    /// Nothing outside memory.
+    pub value: Option<u32>,
+    /// Whether each core's link is to it.
+    pub linked: [bool; 4],
+    /// The table has an entry for it.
+    pub filled: bool,
+}
+
+/// An access, with the word it is to before and after it.
+pub struct Access {
+    pub address: u32,
+    pub before: Word,
+    pub after: Word,
+}
+
+/// The address that an instruction accesses, if it is a load, a store or p.*.
+fn goal(core: &Core, insn: Insn) -> Option<u32> {
+    let families = [Lwa..=Lhs, Swa..=Sh, Cinvalidate..=Cflush];
+    let access = families.iter().any(|family| family.contains(&insn.kind));
+    access.then(|| core.get(insn.a).wrapping_add(insn.imm))
+}
+
+/// What notes 1, 2, 4 and 5 of document 02 tell apart.
 #[derive(Default)]
 pub struct Counts {
     sums: Sums,
     products: Products,
     interrupts: Interrupts,
+    limits: Limits,
 }
 
 /// What a run is on.
@@ -45,6 +75,7 @@ struct Running {
     memory: Vec<u8>,
     cores: Vec<Core>,
     table: Vec<u64>,
+    limit: u32,
 }
 
 impl Running {
@@ -53,31 +84,57 @@ impl Running {
             memory: case.memory.clone(),
             cores: case.sheets.chunks(SHEET_WORDS).map(Core::from_sheet).collect(),
             table: case.table.clone(),
+            limit: case.limit,
         }
+    }
+
+    /// The word that has the byte at an address.
+    fn word(&self, address: u32) -> Word {
+        let address = address & !3;
+        let link = |core: &Core| core.link && core.link_address == address;
+        let mut linked = [false; 4];
+        linked.iter_mut().zip(&self.cores).for_each(|(linked, core)| *linked = link(core));
+        Word { value: exec::fetch(&self.memory, address), linked, filled: self.held(address) }
+    }
+
+    /// Whether the table has an entry for the word at an address.
+    fn held(&self, address: u32) -> bool {
+        self.table.get(address as usize / 4).is_some_and(|&entry| entry != 0)
+    }
+
+    fn step(&mut self, who: usize, lines: u32) -> Step {
+        let interrupt = exec::interrupt(&mut self.cores[who], lines);
+        interrupt.unwrap_or_else(|| {
+            let memory = &mut Memory { bytes: &mut self.memory, limit: self.limit };
+            runs::fast_step(memory, &mut self.cores, who, &mut self.table).0
+        })
     }
 
     /// The next entry of the schedule.
     fn take(&mut self, who: usize, lines: u32) -> Entry {
         let before = self.cores[who];
-        let word = exec::fetch(&self.memory, before.pc);
+        let insn = exec::fetch(&self.memory, before.pc).map(isa::decode_insn);
         let same = |(number, core): (usize, &Core)| number != who && core.pc == before.pc;
         let shared = self.cores.iter().enumerate().any(same);
-        let held = self.table.get(before.pc as usize / 4).is_some_and(|&entry| entry != 0);
-        let step = before.running.then(|| {
-            let interrupt = exec::interrupt(&mut self.cores[who], lines);
-            interrupt.unwrap_or_else(|| {
-                runs::fast_step(&mut self.memory, &mut self.cores, who, &mut self.table).0
-            })
+        let held = self.held(before.pc);
+        let goal = insn.and_then(|insn| goal(&before, insn));
+        let found = goal.map(|address| self.word(address));
+        let step = before.running.then(|| self.step(who, lines));
+        let access = goal.zip(found).map(|(address, before)| Access {
+            address,
+            before,
+            after: self.word(address),
         });
         Entry {
             who,
             lines,
             before,
             after: self.cores[who],
-            insn: word.map(isa::decode_insn),
+            insn,
             held,
             shared,
             raised: step.and_then(|step| step.raised),
+            access,
         }
     }
 }
@@ -87,9 +144,11 @@ impl Counts {
     pub fn watch(&mut self, case: &Case) {
         let mut running = Running::start(case);
         self.interrupts.start();
+        self.limits.start(case);
         for (&who, &lines) in case.schedule.iter().zip(&case.levels) {
             let entry = running.take(usize::from(who), lines);
             self.interrupts.note(&entry);
+            self.limits.note(&entry);
             let Entry { before, after, raised, .. } = entry;
             let fetched = before.running && raised != Some(Cause::Interrupt);
             if let Some(insn) = entry.insn.filter(|_| fetched) {
@@ -100,10 +159,12 @@ impl Counts {
         }
     }
 
-    /// Shows the counts, and stops if one of a note is too small.
-    pub fn expect(&self, what: &str, [of_sums, of_products, of_interrupts]: [u32; 3]) {
+    /// Shows the counts, and stops if one of a note is too small; those of notes 4
+    /// and 5 are held to so many times their least numbers.
+    pub fn expect(&self, what: &str, of_sums: u32, of_products: u32, times: u32) {
         self.sums.expect(what, of_sums);
         self.products.expect(what, of_products);
-        self.interrupts.expect(what, of_interrupts);
+        self.interrupts.expect(what, times);
+        self.limits.expect(what, times);
     }
 }

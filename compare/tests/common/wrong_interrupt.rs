@@ -1,9 +1,8 @@
-//! Engines that are wrong in what note 4 of document 02 puts before a fetch, and
-//! engines that turn levels back wrongly.
+//! Engines that are wrong in what note 4 of document 02 puts before a fetch.
 
 use super::wrong_step::{read_sheets, write_sheets};
 use compare::check::{Codec, Engine, BY_CACHE};
-use compare::exec::{self, Cause, Exception};
+use compare::exec::{self, Cause, Exception, Memory};
 use compare::isa::{self, Kind};
 use compare::runs::{self, Answer};
 use compare::state::{Core, IEE};
@@ -59,7 +58,7 @@ pub const RIGHT: WrongInterrupt = WrongInterrupt {
 
 /// What an engine runs on.
 struct Running<'a> {
-    memory: &'a mut [u8],
+    memory: Memory<'a>,
     cores: Vec<Core>,
     table: Option<&'a mut [u64]>,
     /// The kind that each core executed last.
@@ -70,10 +69,10 @@ struct Running<'a> {
 impl Running<'_> {
     /// The step that is no interrupt.
     fn step(&mut self, who: usize) {
-        let word = exec::fetch(self.memory, self.cores[who].pc);
+        let word = exec::fetch(self.memory.bytes, self.cores[who].pc);
         let (step, reused) = match self.table.as_deref_mut() {
-            None => (runs::plain_step(self.memory, &mut self.cores, who), false),
-            Some(table) => runs::fast_step(self.memory, &mut self.cores, who, table),
+            None => (runs::plain_step(&mut self.memory, &mut self.cores, who), false),
+            Some(table) => runs::fast_step(&mut self.memory, &mut self.cores, who, table),
         };
         self.last[who] = word.map(|word| isa::decode_insn(word).kind);
         self.answer.executed += 1;
@@ -86,7 +85,7 @@ impl Running<'_> {
         let pc = self.cores[who].pc;
         (rules.enter)(&mut self.cores[who]);
         self.last[who] = None;
-        let form = exec::fetch(self.memory, pc).map(isa::decode);
+        let form = exec::fetch(self.memory.bytes, pc).map(isa::decode);
         match (self.table.as_deref_mut(), form) {
             (Some(table), Some(form)) => {
                 let entry = &mut table[pc as usize / 4];
@@ -106,7 +105,7 @@ impl WrongInterrupt {
             return;
         }
         let core = running.cores[who];
-        let outside = exec::fetch(running.memory, core.pc).is_none();
+        let outside = exec::fetch(running.memory.bytes, core.pc).is_none();
         let shielded = running.last[who].is_some_and(|kind| self.shields.contains(&kind));
         let kept_out = shielded || self.fetches_first && outside;
         if (self.due)(&before, &core) && !kept_out {
@@ -119,7 +118,7 @@ impl WrongInterrupt {
 
     fn run(
         &self,
-        memory: &mut [u8],
+        memory: Memory,
         sheets: &mut [u32],
         schedule: &[u8],
         levels: &[u32],
@@ -156,8 +155,9 @@ impl Engine for WrongInterrupt {
         sheets: &mut [u32],
         schedule: &[u8],
         levels: &[u32],
+        limit: u32,
     ) -> u64 {
-        self.run(memory, sheets, schedule, levels, None)
+        self.run(Memory { bytes: memory, limit }, sheets, schedule, levels, None)
     }
     fn fast_run(
         &self,
@@ -165,80 +165,9 @@ impl Engine for WrongInterrupt {
         sheets: &mut [u32],
         schedule: &[u8],
         levels: &[u32],
+        limit: u32,
         table: &mut [u64],
     ) -> u64 {
-        self.run(memory, sheets, schedule, levels, Some(table))
-    }
-}
-
-/// What an engine does with what it is lent.
-pub enum Turn {
-    Right,
-    Refuse(u8),
-    /// Runs with other levels.
-    With(Vec<u32>),
-}
-
-/// The lengths in question, and what is due.
-pub struct Lent<'a> {
-    pub entries: usize,
-    pub levels: &'a [u32],
-    /// The refusal due, or 0.
-    pub due: u8,
-    /// The refusal due if the levels were as many as the entries.
-    pub otherwise: u8,
-}
-
-/// An engine that is wrong in which levels it turns back.
-pub struct WrongRefusal {
-    pub name: &'static str,
-    pub turn: fn(&Lent) -> Turn,
-}
-
-impl Codec for WrongRefusal {
-    fn name(&self) -> &str {
-        self.name
-    }
-    fn decode(&self, word: u32) -> u64 {
-        BY_CACHE.decode(word)
-    }
-    fn encode(&self, entry: u64) -> u64 {
-        BY_CACHE.encode(entry)
-    }
-}
-
-impl Engine for WrongRefusal {
-    fn plain_run(
-        &self,
-        memory: &mut [u8],
-        sheets: &mut [u32],
-        schedule: &[u8],
-        levels: &[u32],
-    ) -> u64 {
-        let (entries, low) = (schedule.len(), vec![0; schedule.len()]);
-        let due = runs::plain_refusal(memory, sheets, schedule, levels);
-        let otherwise = runs::plain_refusal(memory, sheets, schedule, &low);
-        match (self.turn)(&Lent { entries, levels, due, otherwise }) {
-            Turn::Right => BY_CACHE.plain_run(memory, sheets, schedule, levels),
-            Turn::Refuse(refusal) => Answer::refused(refusal).pack(),
-            Turn::With(levels) => BY_CACHE.plain_run(memory, sheets, schedule, &levels),
-        }
-    }
-    fn fast_run(
-        &self,
-        memory: &mut [u8],
-        sheets: &mut [u32],
-        schedule: &[u8],
-        levels: &[u32],
-        table: &mut [u64],
-    ) -> u64 {
-        let (entries, low) = (schedule.len(), vec![0; schedule.len()]);
-        let due = runs::fast_refusal(memory, sheets, schedule, levels, table);
-        let otherwise = runs::fast_refusal(memory, sheets, schedule, &low, table);
-        match (self.turn)(&Lent { entries, levels, due, otherwise }) {
-            Turn::Right => BY_CACHE.fast_run(memory, sheets, schedule, levels, table),
-            Turn::Refuse(refusal) => Answer::refused(refusal).pack(),
-            Turn::With(levels) => BY_CACHE.fast_run(memory, sheets, schedule, &levels, table),
-        }
+        self.run(Memory { bytes: memory, limit }, sheets, schedule, levels, Some(table))
     }
 }

@@ -3,21 +3,60 @@
 use compare::battery::Pair;
 use compare::check::{Codec, Engine, BY_CACHE, BY_HISTORY};
 use compare::dump;
-use compare::exec::{self, Cause, Exception};
+use compare::exec::{self, Cause, Exception, Memory};
 use compare::isa::{self, Insn, Kind};
 use compare::runs::{self, Answer};
 use compare::state::{Core, CY, OV, SHEET_WORDS};
 
+/// A step that is about to be taken.
+pub struct Attempt<'a> {
+    pub insn: Insn,
+    pub core: &'a Core,
+    pub who: usize,
+    /// The run's limit, and whether it is the fast one.
+    pub limit: u32,
+    pub fast: bool,
+}
+
+impl Attempt<'_> {
+    /// The address of an access.
+    pub fn address(&self) -> u32 {
+        address(self.core, self.insn)
+    }
+}
+
+fn address(core: &Core, insn: Insn) -> u32 {
+    core.get(insn.a).wrapping_add(insn.imm)
+}
+
 /// One step as this engine takes it, for another to spoil. Before it, its entry's
 /// lines are latched.
-pub struct Taken {
+pub struct Taken<'a> {
     pub insn: Insn,
     pub before: Core,
     pub after: Core,
     pub raised: bool,
+    /// What it left besides.
+    pub bytes: &'a mut [u8],
+    pub cores: &'a mut [Core],
+    pub table: Option<&'a mut [u64]>,
+    /// The run's limit.
+    pub limit: u32,
 }
 
-impl Taken {
+impl Taken<'_> {
+    /// The address of an access.
+    pub fn address(&self) -> u32 {
+        address(&self.before, self.insn)
+    }
+
+    /// Ends it in a bus error instead.
+    pub fn fail(&mut self, failing: u32) {
+        self.after = self.before;
+        exec::take(&mut self.after, Exception { cause: Cause::Bus, failing: Some(failing) });
+        self.raised = true;
+    }
+
     /// Ends it another way, after rD and flags are written.
     pub fn end(&mut self, raised: bool) {
         let sr = if self.raised { self.after.esr } else { self.after.sr };
@@ -87,12 +126,23 @@ pub fn write_sheets(cores: &[Core], sheets: &mut [u32]) {
 pub struct WrongStep {
     pub name: &'static str,
     pub of: &'static [Kind],
+    /// The limit that a step is held to.
+    pub limit: fn(&Attempt) -> u32,
     pub spoil: fn(&mut Taken),
 }
 
 /// As a constant, so that a list of them reads like a table.
 pub const fn wrong(name: &'static str, of: &'static [Kind], spoil: fn(&mut Taken)) -> WrongStep {
-    WrongStep { name, of, spoil }
+    WrongStep { name, of, limit: |attempt| attempt.limit, spoil }
+}
+
+/// The same of one that holds steps to another limit.
+pub const fn held_to(
+    name: &'static str,
+    of: &'static [Kind],
+    limit: fn(&Attempt) -> u32,
+) -> WrongStep {
+    WrongStep { name, of, limit, spoil: |_| {} }
 }
 
 impl WrongStep {
@@ -100,36 +150,41 @@ impl WrongStep {
     /// are right.
     fn step(
         &self,
-        memory: &mut [u8],
+        memory: &mut Memory,
         cores: &mut [Core],
         (who, lines): (usize, u32),
-        table: Option<&mut [u64]>,
+        mut table: Option<&mut [u64]>,
     ) -> (bool, bool) {
         if exec::interrupt(&mut cores[who], lines).is_some() {
             return (true, false);
         }
-        let before = cores[who];
-        let word = exec::fetch(memory, before.pc);
-        let (step, reused) = match table {
+        let (before, limit, fast) = (cores[who], memory.limit, table.is_some());
+        let insn = exec::fetch(memory.bytes, before.pc).map(isa::decode_insn);
+        let insn = insn.filter(|insn| self.of.contains(&insn.kind));
+        if let Some(insn) = insn {
+            memory.limit = (self.limit)(&Attempt { insn, core: &before, who, limit, fast });
+        }
+        let (step, reused) = match table.as_deref_mut() {
             None => (runs::plain_step(memory, cores, who), false),
             Some(table) => runs::fast_step(memory, cores, who, table),
         };
-        let raised = step.raised.is_some();
-        match word.map(isa::decode_insn) {
-            Some(insn) if self.of.contains(&insn.kind) => {
-                let mut taken = Taken { insn, before, after: cores[who], raised };
-                (self.spoil)(&mut taken);
-                cores[who] = taken.after;
-                (taken.raised, reused)
-            }
-            _ => (raised, reused),
-        }
+        memory.limit = limit;
+        let (after, raised) = (cores[who], step.raised.is_some());
+        let Some(insn) = insn else {
+            return (raised, reused);
+        };
+        let bytes = &mut *memory.bytes;
+        let mut taken = Taken { insn, before, after, raised, bytes, cores, table, limit };
+        (self.spoil)(&mut taken);
+        let Taken { after, raised, .. } = taken;
+        cores[who] = after;
+        (raised, reused)
     }
 
     /// The fast run, or without a table the plain one.
     fn run(
         &self,
-        memory: &mut [u8],
+        memory: &mut Memory,
         sheets: &mut [u32],
         schedule: &[u8],
         levels: &[u32],
@@ -171,8 +226,9 @@ impl Engine for WrongStep {
         sheets: &mut [u32],
         schedule: &[u8],
         levels: &[u32],
+        limit: u32,
     ) -> u64 {
-        self.run(memory, sheets, schedule, levels, None)
+        self.run(&mut Memory { bytes: memory, limit }, sheets, schedule, levels, None)
     }
     fn fast_run(
         &self,
@@ -180,9 +236,10 @@ impl Engine for WrongStep {
         sheets: &mut [u32],
         schedule: &[u8],
         levels: &[u32],
+        limit: u32,
         table: &mut [u64],
     ) -> u64 {
-        self.run(memory, sheets, schedule, levels, Some(table))
+        self.run(&mut Memory { bytes: memory, limit }, sheets, schedule, levels, Some(table))
     }
 }
 

@@ -15,12 +15,12 @@ use Rattle.effect.specs.declared.types.Effect.{Effect}
 use Rattle.action.specs.Operations.{effectiveAddress, granted, reaches}
 
 -- t is the answer to the test at the address
-module _ (x : Inputs) (n len at : ℕ) (t : Access) (p : at ≡ effectiveAddress x) (q : causeOf t ≡ access n len at) where
-  reached : {o : Option Cause} → causeOf t ≡ o → (e : Effect) → granted x o (effectiveAddress x) e ≡ reaches x n len e
-  reached h e = ap (λ (o : Option Cause). granted x o (effectiveAddress x) e) (sym (ap (access n len) (sym p) ∙ sym q ∙ h))
+module _ (x : Inputs) (n limit len at : ℕ) (t : Access) (p : at ≡ effectiveAddress x) (q : causeOf t ≡ access n limit len at) where
+  reached : {o : Option Cause} → causeOf t ≡ o → (e : Effect) → granted x o (effectiveAddress x) e ≡ reaches x n limit len e
+  reached h e = ap (λ (o : Option Cause). granted x o (effectiveAddress x) e) (sym (ap (access n limit len) (sym p) ∙ sym q ∙ h))
 
-  pub answered : tagOf the-type t ≡ 0 → (r e : Effect) → r ≡ e → r ≡ reaches x n len e
+  pub answered : tagOf the-type t ≡ 0 → (r e : Effect) → r ≡ e → r ≡ reaches x n limit len e
   answered h r e d = d ∙ reached (granted-tag t h) e
 
-  pub faulted : {cause : Cause} → t ≡ Fault cause → (r e : Effect) → r ≡ faults x cause at → r ≡ reaches x n len e
+  pub faulted : {cause : Cause} → t ≡ Fault cause → (r e : Effect) → r ≡ faults x cause at → r ≡ reaches x n limit len e
   faulted {cause} h r e d = d ∙ ap (faults x cause) p ∙ reached (ap causeOf h) e

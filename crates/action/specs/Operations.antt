@@ -1,4 +1,4 @@
--- What the operations of instructions do: document 01, "One instruction"; document 02, note 2. Each is an effect of what its instruction reads, x : Inputs.
+-- What the operations of instructions do: document 01, "One instruction"; document 02, notes 1, 2, 4 and 5. Each is an effect of what its instruction reads, x : Inputs.
 use mathlib.Core.Bool.{Bool, _&&_}
 use mathlib.Core.List.{List}
 use mathlib.Core.Option.{Option, none, some}
@@ -14,7 +14,7 @@ use Rattle.arith.specs.Bit.{isSet, setBit}
 use Rattle.arith.specs.Status.{F, OVE, allowed, aligned, setCarryOverflow}
 use Rattle.arith.specs.Sums.{addressSum}
 use Rattle.arith.specs.declared.Flagged.{Flagged}
-use Rattle.memory.specs.Memory.{loaded, access}
+use Rattle.memory.specs.Memory.{loaded, noLimit, access}
 use Rattle.product.specs.declared.Accumulator.{Accumulator}
 use Rattle.effect.specs.State.{epcrAt, eearAt, esrAt, machiAt, macloAt, picmrAt, picsrAt}
 use Rattle.effect.specs.Effect.{noStore, inSlot, advances, halting, faults, raisesRange, jumping, returning, linking, saving, unlinking, accumulating, readingAccumulator}
@@ -120,39 +120,41 @@ returns x = outsideSlot x (returning x)
 abbrev pub effectiveAddress : Inputs → ℕ
 effectiveAddress x = addressSum (x .a) (x .immediate)
 
--- "Loads, stores and p.*: alignment first (words 4, halves 2), then bus error if any byte is outside."
+-- what an access does, or the exception that its test raises (`access` in memory's definitions)
 abbrev pub granted : Inputs → Option Cause → ℕ → Effect → Effect
 granted x none at e = e
 granted x (some cause) at e = faults x cause at
 
-abbrev pub reaches : Inputs → ℕ → ℕ → Effect → Effect
-reaches x n len e = granted x (access n len (effectiveAddress x)) (effectiveAddress x) e
+abbrev pub reaches : Inputs → ℕ → ℕ → ℕ → Effect → Effect
+reaches x n limit len e = granted x (access n limit len (effectiveAddress x)) (effectiveAddress x) e
 
 -- a load of n bytes, sign- or zero-extended
 unfoldable pub load : Inputs → List ℕ → ℕ → Bool → Effect
-load x mem n sign = reaches x n (length mem) (writes x (extend sign (8 * n) (loaded n mem (effectiveAddress x))))
+load x mem n sign = reaches x n noLimit (length mem) (writes x (extend sign (8 * n) (loaded n mem (effectiveAddress x))))
 
 -- l.lwa
 unfoldable pub loadLinked : Inputs → List ℕ → Effect
-loadLinked x mem = reaches x 4 (length mem) (linking x (x .d) (loaded 4 mem (effectiveAddress x)) (effectiveAddress x))
+loadLinked x mem = reaches x 4 noLimit (length mem) (linking x (x .d) (loaded 4 mem (effectiveAddress x)) (effectiveAddress x))
 
 -- the low n bytes of rB, at the address
 abbrev pub storing : Inputs → ℕ → Store
 storing x n = record { width = n; address = effectiveAddress x; value = x .b }
 
-unfoldable pub store : Inputs → ℕ → ℕ → Effect
-store x len n = reaches x n len (saving x (storing x n))
+-- Stores and l.swa. Document 02, note 5: "Any store or l.swa reaching below it raises bus error after alignment and before the link test, writes no memory and
+-- clears no other core's link." (An exception has no store, and the link is looked at by what the test grants.)
+unfoldable pub store : Board → Inputs → ℕ → ℕ → Effect
+store board x len n = reaches x n (board .limit) len (saving x (storing x n))
 
 -- "l.swa, after both checks, stores and sets F if the link is to that word, else clears F; it clears its own link either way."
 abbrev pub linked : Inputs → Bool
 linked x = eqb (x .link .held) 1 && eqb (x .link .address) (effectiveAddress x)
 
-unfoldable pub storeConditional : Inputs → ℕ → Effect
-storeConditional x len = reaches x 4 len (unlinking x (bit (linked x)) (if linked x then storing x 4 else noStore))
+unfoldable pub storeConditional : Board → Inputs → ℕ → Effect
+storeConditional board x len = reaches x 4 (board .limit) len (unlinking x (bit (linked x)) (if linked x then storing x 4 else noStore))
 
 -- "p.* tests its one byte and does no more."
 unfoldable pub touch : Inputs → ℕ → Effect
-touch x len = reaches x 1 len (nothing x)
+touch x len = reaches x 1 noLimit len (nothing x)
 
 -- ---- special-purpose registers
 

@@ -1,4 +1,4 @@
-// Loads, stores and the cache instructions: each tests its access first.
+// Loads, stores and the cache instructions: each tests its access first. Stores and l.swa are held against the board's limit.
 ghost use mathlib.Core.Path.{_≡_};
 ghost use Rattle.bits.specs.Choice.{if_then_else_};
 ghost use Rattle.bits.specs.Word.{bit};
@@ -9,10 +9,14 @@ ghost use Rattle.action.specs.Operations.{effectiveAddress, load as load
 use crate::completed;
 use crate::raised;
 use effect::types::Action;
+use effect::types::Board;
 use effect::types::Inputs;
 use effect::types::Linked;
 use effect::types::Store;
 use memory::Access;
+
+// Loads, l.lwa and p.* may be anywhere in memory.
+const NO_LIMIT: u32 = 0;
 
 fn address(x: Inputs) -> u32
     ensures { λ r. ⌜ r ≡ effectiveAddress x ⌝ }
@@ -25,7 +29,7 @@ pub fn load(x: Inputs, mem: &[u8], width: u32, signed: bool) -> Action
     ensures { λ r. ⌜ effectBy x r ≡ loadOf x (now (mem .entry)) width signed ⌝ }
 {
     let at = address(x);
-    match memory::test(mem.len(), at, width) {
+    match memory::test(NO_LIMIT, mem.len(), at, width) {
         Access::Granted => Action::Advance(completed::write(
             x,
             memory::load_extended(mem, at, width, signed),
@@ -39,7 +43,7 @@ pub fn load_linked(x: Inputs, mem: &[u8]) -> Action
     ensures { λ r. ⌜ effectBy x r ≡ loadLinked x (now (mem .entry)) ⌝ }
 {
     let at = address(x);
-    match memory::test(mem.len(), at, 4) {
+    match memory::test(NO_LIMIT, mem.len(), at, 4) {
         Access::Granted => Action::LoadLinked(Linked {
             place: x.d,
             value: memory::load(mem, at, 4),
@@ -59,12 +63,12 @@ fn storing(x: Inputs, width: u32) -> Store
     }
 }
 
-pub fn store(x: Inputs, len: usize, width: u32) -> Action
+pub fn store(board: Board, x: Inputs, len: usize, width: u32) -> Action
     requires { ⌜ Width width ⌝ }
-    ensures { λ r. ⌜ effectBy x r ≡ storeOf x len width ⌝ }
+    ensures { λ r. ⌜ effectBy x r ≡ storeOf board x len width ⌝ }
 {
     let at = address(x);
-    match memory::test(len, at, width) {
+    match memory::test(board.limit, len, at, width) {
         Access::Granted => Action::Save(storing(x, width)),
         Access::Fault(cause) => raised::fault(cause, at),
     }
@@ -91,11 +95,11 @@ fn conditional(x: Inputs) -> Action
 }
 
 // l.swa.
-pub fn store_conditional(x: Inputs, len: usize) -> Action
-    ensures { λ r. ⌜ effectBy x r ≡ storeConditional x len ⌝ }
+pub fn store_conditional(board: Board, x: Inputs, len: usize) -> Action
+    ensures { λ r. ⌜ effectBy x r ≡ storeConditional board x len ⌝ }
 {
     let at = address(x);
-    match memory::test(len, at, 4) {
+    match memory::test(board.limit, len, at, 4) {
         Access::Granted => conditional(x),
         Access::Fault(cause) => raised::fault(cause, at),
     }
@@ -106,7 +110,7 @@ pub fn touch(x: Inputs, len: usize) -> Action
     ensures { λ r. ⌜ effectBy x r ≡ touchOf x len ⌝ }
 {
     let at = address(x);
-    match memory::test(len, at, 1) {
+    match memory::test(NO_LIMIT, len, at, 1) {
         Access::Granted => Action::Advance(completed::nothing(x)),
         Access::Fault(cause) => raised::fault(cause, at),
     }

@@ -41,9 +41,11 @@ pub enum Outcome {
     Raised(Exception),
 }
 
-// What every instruction of a run is given beside its core's state.
+// What every instruction of a run is given beside its core's state: how many cores there are, and how many bytes at the start of memory are
+// read-only.
 pub struct Board {
     pub cores: u32,
+    pub limit: u32,
 }
 
 // An instruction's fields, its registers' values, and its core's state before it.

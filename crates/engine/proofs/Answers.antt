@@ -102,7 +102,7 @@ module _ (l : Lent) (cache : List ℕ) (z : fastRefusal l cache ≡ 0) where
   unfolding passes scheduleFits namesCores levelsFit everyFrom
   left-accepted x cache′ p q r a f =
       let n : length cache′ ≡ length (x .memory) / 4 = r ∙ cache-length l cache (cache-passes l cache z) ∙ ap (λ (n : ℕ). n / 4) (sym p) in
-      let b : boardOf (again l x) ≡ boardOf l = ap (λ (n : ℕ). record { cores = n / stateWords }) q in
+      let b : boardOf (again l x) ≡ boardOf l = ap (λ (n : ℕ). record { cores = n / stateWords; limit = l .limit }) q in
       none-refused (again l x) cache′
       (record {
         memory-fits = rw p (passes .memory-fits);
@@ -111,6 +111,7 @@ module _ (l : Lent) (cache : List ℕ) (z : fastRefusal l cache ≡ 0) where
         schedule-fits = tt;
         names-cores = tt;
         levels-fit = tt;
+        limit-fits = rw p (passes .limit-fits);
       })
       (right-passes (again l x) cache′ n (subst (λ (board : Board). Right board cache′ (x .memory)) (sym b) f))
 

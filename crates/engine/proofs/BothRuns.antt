@@ -1,4 +1,4 @@
--- Both runs side by side, on equal memory, states, schedule and levels: demand 3 of what the functions promise. Assumes nothing.
+-- Both runs side by side, on equal memory, states, schedule and levels, at one limit: demand 3 of what the functions promise. Assumes nothing.
 use mathlib.Core.List.{List}
 use mathlib.Core.Path.{_≡_, sym, ap, _∙_}
 use Prim.Native.Nat.{ℕ}

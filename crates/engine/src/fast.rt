@@ -10,13 +10,21 @@ pub fn fast_run(
     states: &mut [u32],
     schedule: &[u8],
     levels: &[u32],
+    limit: u32,
     cache: &mut [u64],
 ) -> Answer
-    ensures { λ r. ⌜ FastAnswer (lent (now (memory .entry)) (now (states .entry)) (now (schedule .entry)) (now (levels .entry))) (now (cache .entry)) (left (now (memory .exit)) (now (states .exit))) (now (cache .exit)) r ⌝ }
+    ensures { λ r. ⌜ FastAnswer (lent (now (memory .entry)) (now (states .entry)) (now (schedule .entry)) (now (levels .entry)) limit) (now (cache .entry)) (left (now (memory .exit)) (now (states .exit))) (now (cache .exit)) r ⌝ }
 {
-    let verdict = refusal::check_fast(memory, states, schedule, levels, cache);
+    let verdict = refusal::check_fast(memory, states, schedule, levels, limit, cache);
     match verdict {
-        Verdict::Accepted => Answer::Ran(steps::run(memory, states, schedule, levels, cache)),
+        Verdict::Accepted => Answer::Ran(steps::run(
+            memory,
+            states,
+            schedule,
+            levels,
+            limit,
+            cache,
+        )),
         Verdict::Refused(cause) => Answer::Refused(cause),
     }
 }

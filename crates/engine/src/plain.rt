@@ -5,14 +5,20 @@ use crate::answer::Answer;
 use refusal::cause::Verdict;
 
 // The plain run: answers its counts, or the first rule that is broken, and then nothing lent is written.
-pub fn plain_run(memory: &mut [u8], states: &mut [u32], schedule: &[u8], levels: &[u32]) -> Answer
-    ensures { λ r. ⌜ PlainAnswer (lent (now (memory .entry)) (now (states .entry)) (now (schedule .entry)) (now (levels .entry))) (left (now (memory .exit)) (now (states .exit))) r ⌝ }
+pub fn plain_run(
+    memory: &mut [u8],
+    states: &mut [u32],
+    schedule: &[u8],
+    levels: &[u32],
+    limit: u32,
+) -> Answer
+    ensures { λ r. ⌜ PlainAnswer (lent (now (memory .entry)) (now (states .entry)) (now (schedule .entry)) (now (levels .entry)) limit) (left (now (memory .exit)) (now (states .exit))) r ⌝ }
 {
-    let verdict = refusal::check(memory, states, schedule, levels);
+    let verdict = refusal::check(memory, states, schedule, levels, limit);
     match verdict {
         Verdict::Accepted => {
             let mut none = [0u64; 0];
-            Answer::Ran(steps::run(memory, states, schedule, levels, &mut none))
+            Answer::Ran(steps::run(memory, states, schedule, levels, limit, &mut none))
         }
         Verdict::Refused(cause) => Answer::Refused(cause),
     }

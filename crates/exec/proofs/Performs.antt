@@ -23,11 +23,11 @@ use Rattle.lawful.proofs.Sound.{meaning-sound}
 use Rattle.exec.specs.Inner.{Performs}
 
 -- what a sound effect writes can be committed
-sound-storable : {len : ℕ} {s : Store} → SoundStore len s → Storable len s
+sound-storable : {board : Board} {len : ℕ} {s : Store} → SoundStore board len s → Storable len s
 sound-storable (none z) = can.none z
 sound-storable (some w) = can.some (w .wide) (w .inside)
 
-sound-fits : {len : ℕ} {e : Effect} → Sound len e → Fits len e
+sound-fits : {board : Board} {len : ℕ} {e : Effect} → Sound board len e → Fits len e
 sound-fits h = record { place-lt = h .place-lt; storable = sound-storable (h .sound-store) }
 
 -- an action that is what its kind means, on inputs that the code read

@@ -69,7 +69,7 @@ fn mid(board: Board, memory: &mut [u8], own: &mut [u32], core: usize, kind: u8, 
 {
     if kind < groups::LOGIC {
         if kind < groups::ARITHMETIC {
-            let action = semantics::store(memory.len(), kind, inputs_at(own, core, entry));
+            let action = semantics::store(board, memory.len(), kind, inputs_at(own, core, entry));
             commit::save(memory, own, core, entry, action)
         } else {
             let action = semantics::arithmetic(kind, inputs_at(own, core, entry));

@@ -39,10 +39,11 @@ pub extern "C" fn or1k_plain_run(
     states: &mut [u32],
     schedule: &[u8],
     levels: &[u32],
+    limit: u32,
 ) -> u64
-    ensures { λ r. ⌜ PlainRun (lent (now (memory .entry)) (now (states .entry)) (now (schedule .entry)) (now (levels .entry))) (left (now (memory .exit)) (now (states .exit))) r ⌝ }
+    ensures { λ r. ⌜ PlainRun (lent (now (memory .entry)) (now (states .entry)) (now (schedule .entry)) (now (levels .entry)) limit) (left (now (memory .exit)) (now (states .exit))) r ⌝ }
 {
-    engine::answer::pack(engine::plain::plain_run(memory, states, schedule, levels))
+    engine::answer::pack(engine::plain::plain_run(memory, states, schedule, levels, limit))
 }
 
 #[no_mangle]
@@ -51,9 +52,10 @@ pub extern "C" fn or1k_fast_run(
     states: &mut [u32],
     schedule: &[u8],
     levels: &[u32],
+    limit: u32,
     cache: &mut [u64],
 ) -> u64
-    ensures { λ r. ⌜ FastRun (lent (now (memory .entry)) (now (states .entry)) (now (schedule .entry)) (now (levels .entry))) (now (cache .entry)) (left (now (memory .exit)) (now (states .exit))) (now (cache .exit)) r ⌝ }
+    ensures { λ r. ⌜ FastRun (lent (now (memory .entry)) (now (states .entry)) (now (schedule .entry)) (now (levels .entry)) limit) (now (cache .entry)) (left (now (memory .exit)) (now (states .exit))) (now (cache .exit)) r ⌝ }
 {
-    engine::answer::pack(engine::fast::fast_run(memory, states, schedule, levels, cache))
+    engine::answer::pack(engine::fast::fast_run(memory, states, schedule, levels, limit, cache))
 }

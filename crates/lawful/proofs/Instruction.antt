@@ -4,7 +4,7 @@ use mathlib.Core.List.{List}
 use mathlib.Core.Path.{_≡_, ap}
 use Prim.Native.Nat.{ℕ, _+_, _%_, _<_, _≤_}
 use native.Mathlib.Omega.{arith}
-use lib.ListN.{length}
+use lib.ListN.{length, getD}
 use borrow.Author.Tests.{ltb-false}
 use Rattle.bits.specs.Word.{field}
 use Rattle.isa.specs.InstructionSet.{decode}
@@ -13,7 +13,7 @@ use Rattle.isa.specs.Register.{Register}
 use Rattle.isa.specs.declared.entry.Fields.{Fields}
 use Rattle.isa.proofs.Registers.{fields-registers}
 use Rattle.memory.specs.Memory.{stored, memoryWord}
-use Rattle.memory.proofs.Laws.{length-stored, other-word-kept}
+use Rattle.memory.proofs.Laws.{length-stored, stored-outside, other-word-kept}
 use Rattle.effect.specs.State.{picsrAt}
 use Rattle.effect.specs.declared.types.Board.{Board}
 use Rattle.effect.specs.declared.types.Effect.{Effect}
@@ -43,7 +43,7 @@ inputs-lawful s core f h a =
 
 module _ (board : Board) (mem s : List ℕ) (core : ℕ) where
   -- any entry's
-  pub effect-sound : (entry : ℕ) → Sound (length mem) (effectOf board mem s core entry)
+  pub effect-sound : (entry : ℕ) → Sound board (length mem) (effectOf board mem s core entry)
   unfolding inputs
   effect-sound entry = meaning-sound board mem (inputs s core (fieldsOf entry)) (fields-registers entry .d) (field entry 56 8)
 
@@ -69,12 +69,23 @@ no-store-kept mem e h =
     ap (λ n. stored n mem (e .store .address) (e .store .value)) z
 
 -- every word that it does not touch stays
-pub other-words-kept : (mem : List ℕ) (e : Effect) → Sound (length mem) e → (k : ℕ) → (k ≡ touched e → ⊥)
+pub other-words-kept : (board : Board) (mem : List ℕ) (e : Effect) → Sound board (length mem) e → (k : ℕ) → (k ≡ touched e → ⊥)
     → memoryWord (memoryAfter mem e) k ≡ memoryWord mem k
 unfolding memoryAfter
-other-words-kept mem e sound k n =
+other-words-kept board mem e sound k n =
     other-word-kept (e .store .width) mem (e .store .address) (e .store .value) k (within (sound .sound-store)) n
   where
-    within : SoundStore (length mem) (e .store) → e .store .address % 4 + e .store .width ≤ 4
+    within : SoundStore board (length mem) (e .store) → e .store .address % 4 + e .store .width ≤ 4
     within (none z) = omega arith
     within (some i) = i .in-word
+
+-- every byte below the limit stays
+pub read-only-kept : (board : Board) (mem : List ℕ) (e : Effect) → Sound board (length mem) e → (j : ℕ) → j < board .limit
+    → getD (memoryAfter mem e) j 0 ≡ getD mem j 0
+unfolding memoryAfter
+read-only-kept board mem e sound j h =
+    stored-outside (e .store .width) mem (e .store .address) (e .store .value) j (above (sound .sound-store))
+  where
+    above : SoundStore board (length mem) (e .store) → e .store .address ≤ j → j < e .store .address + e .store .width → ⊥
+    above (none z) p q = omega arith
+    above (some i) p q = let a = i .above in omega arith

@@ -23,6 +23,7 @@ use Rattle.arith.specs.declared.Flagged.{Flagged}
 use Rattle.arith.proofs.Integer.{by-sign, sub-sub, sub-zero}
 use Rattle.arith.proofs.Status.{allowed-flag, allowed-carry-overflow, allowed-exception, allowed-again, aligned-multiple}
 use Rattle.arith.proofs.Sums.{Ranged, bit-lt, address-sum-multiple}
+use Rattle.memory.specs.Memory.{noLimit}
 use Rattle.memory.proofs.Laws.{granted-aligned}
 use Rattle.product.specs.declared.Accumulator.{Accumulator}
 use Rattle.effect.specs.State.{epcrAt, eearAt, esrAt, machiAt, macloAt, picmrAt, picsrAt}
@@ -197,29 +198,29 @@ module _ (x : Inputs) (i : LawfulInputs x) where
 
   pub load-lawful : (mem : List ℕ) (n : ℕ) (sign : Bool) → Lawful (x .picsr) (load x mem n sign)
   unfolding load
-  load-lawful mem n sign = reaches-law (Lawful (x .picsr)) x n (length mem) (λ g. writes-lawful _) faults-lawful
+  load-lawful mem n sign = reaches-law (Lawful (x .picsr)) x n noLimit (length mem) (λ g. writes-lawful _) faults-lawful
 
   pub load-linked-lawful : (mem : List ℕ) → Lawful (x .picsr) (loadLinked x mem)
   unfolding loadLinked
   load-linked-lawful mem =
-      reaches-law (Lawful (x .picsr)) x 4 (length mem)
+      reaches-law (Lawful (x .picsr)) x 4 noLimit (length mem)
       (λ g.
       completed-lawful (to-register (i .register)) (i .sr-lawful) onward-lawful
-      (record { held-bit = omega arith; address-multiple = granted-aligned 4 (length mem) _ g; no-address = λ e. absurd (omega arith) })
+      (record { held-bit = omega arith; address-multiple = granted-aligned 4 noLimit (length mem) _ g; no-address = λ e. absurd (omega arith) })
       is-running)
       faults-lawful
 
-  pub store-lawful : (len n : ℕ) → Lawful (x .picsr) (store x len n)
+  pub store-lawful : (board : Board) (len n : ℕ) → Lawful (x .picsr) (store board x len n)
   unfolding store
-  store-lawful len n =
-      reaches-law (Lawful (x .picsr)) x n len
+  store-lawful board len n =
+      reaches-law (Lawful (x .picsr)) x n (board .limit) len
       (λ g. completed-lawful (to-register (omega arith)) (i .sr-lawful) onward-lawful (i .link-lawful) is-running)
       faults-lawful
 
-  pub store-conditional-lawful : (len : ℕ) → Lawful (x .picsr) (storeConditional x len)
+  pub store-conditional-lawful : (board : Board) (len : ℕ) → Lawful (x .picsr) (storeConditional board x len)
   unfolding storeConditional
-  store-conditional-lawful len =
-      reaches-law (Lawful (x .picsr)) x 4 len
+  store-conditional-lawful board len =
+      reaches-law (Lawful (x .picsr)) x 4 (board .limit) len
       (λ g.
       completed-lawful (to-register (omega arith)) (allowed-flag (x .sr) (i .sr-lawful) (bit (linked x)) (bit-lt (linked x))) onward-lawful
       no-link-lawful is-running)
@@ -227,7 +228,7 @@ module _ (x : Inputs) (i : LawfulInputs x) where
 
   pub touch-lawful : (len : ℕ) → Lawful (x .picsr) (touch x len)
   unfolding touch
-  touch-lawful len = reaches-law (Lawful (x .picsr)) x 1 len (λ g. nothing-lawful) faults-lawful
+  touch-lawful len = reaches-law (Lawful (x .picsr)) x 1 noLimit len (λ g. nothing-lawful) faults-lawful
 
   pub special-lawful : (n v : ℕ) → Lawful (x .picsr) (setsSpecialRegister x n v)
   unfolding setsSpecialRegister
@@ -265,8 +266,8 @@ module _ (x : Inputs) (i : LawfulInputs x) where
         of-return = return-lawful;
         of-load = load-lawful mem;
         of-load-linked = load-linked-lawful mem;
-        of-store = λ w. store-lawful (length mem) _;
-        of-store-conditional = store-conditional-lawful (length mem);
+        of-store = λ w. store-lawful board (length mem) _;
+        of-store-conditional = store-conditional-lawful board (length mem);
         of-touch = touch-lawful (length mem);
         of-special = special-lawful;
       }

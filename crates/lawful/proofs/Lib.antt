@@ -9,3 +9,4 @@ pub mod Commit
 pub mod Links
 pub mod States
 pub mod Instruction
+pub mod Limit

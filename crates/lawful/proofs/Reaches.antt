@@ -10,10 +10,10 @@ use Rattle.effect.specs.declared.types.Effect.{Effect}
 use Rattle.action.specs.Operations.{effectiveAddress, granted, reaches}
 
 -- an access is granted, or its instruction faults
-pub reaches-law : (P : Effect → Type 0) (x : Inputs) (n len : ℕ) {e : Effect} → (access n len (effectiveAddress x) ≡ none → P e)
-    → ((cause : Cause) (eear : ℕ) → P (faults x cause eear)) → P (reaches x n len e)
-reaches-law P x n len {e} p q = go (access n len (effectiveAddress x)) refl
+pub reaches-law : (P : Effect → Type 0) (x : Inputs) (n limit len : ℕ) {e : Effect} → (access n limit len (effectiveAddress x) ≡ none → P e)
+    → ((cause : Cause) (eear : ℕ) → P (faults x cause eear)) → P (reaches x n limit len e)
+reaches-law P x n limit len {e} p q = go (access n limit len (effectiveAddress x)) refl
   where
-    go : (o : Option Cause) → access n len (effectiveAddress x) ≡ o → P (granted x o (effectiveAddress x) e)
+    go : (o : Option Cause) → access n limit len (effectiveAddress x) ≡ o → P (granted x o (effectiveAddress x) e)
     go none h = p h
     go (some cause) h = q cause (effectiveAddress x)

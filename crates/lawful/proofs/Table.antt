@@ -24,7 +24,7 @@ use Rattle.action.specs.Operations.{writes, nothing, setsFlag, nop, illegal, tr
 use Rattle.semantics.specs.Meaning.{branches, nopMovhi, control, loads, addImmediates, immediates, stores, arithmetic, logic, caches, products, meaning}
 
 -- P holds of every effect that a line of the table may be; J is what a jump or branch by its immediate needs
-pub record Lines (P : Effect → Type 0) (J : Type 0) (mem : List ℕ) (x : Inputs) : Type 0 where
+pub record Lines (P : Effect → Type 0) (J : Type 0) (board : Board) (mem : List ℕ) (x : Inputs) : Type 0 where
   pub of-writes : (v : ℕ) → P (writes x v)
   pub of-nothing : P (nothing x)
   pub of-flag : (t : Bool) → P (setsFlag x t)
@@ -42,12 +42,12 @@ pub record Lines (P : Effect → Type 0) (J : Type 0) (mem : List ℕ) (x : Inpu
   pub of-return : P (returns x)
   pub of-load : (n : ℕ) (sign : Bool) → P (load x mem n sign)
   pub of-load-linked : P (loadLinked x mem)
-  pub of-store : {n : ℕ} → Width n → P (store x (length mem) n)
-  pub of-store-conditional : P (storeConditional x (length mem))
+  pub of-store : {n : ℕ} → Width n → P (store board x (length mem) n)
+  pub of-store-conditional : P (storeConditional board x (length mem))
   pub of-touch : P (touch x (length mem))
   pub of-special : (n v : ℕ) → P (setsSpecialRegister x n v)
 
-module _ (P : Effect → Type 0) (J : Type 0) (board : Board) (mem : List ℕ) (x : Inputs) (l : Lines P J mem x) where
+module _ (P : Effect → Type 0) (J : Type 0) (board : Board) (mem : List ℕ) (x : Inputs) (l : Lines P J board mem x) where
   branches-have : (k : ℕ) → (IsBranch k → J) → P (branches k x)
   unfolding branches
   branches-have k j =
@@ -109,7 +109,7 @@ module _ (P : Effect → Type 0) (J : Type 0) (board : Board) (mem : List ℕ) (
       if-both P (eqb k 32) (l .of-writes _) (
       l .of-illegal))))))))
 
-  stores-have : (k : ℕ) → P (stores (length mem) k x)
+  stores-have : (k : ℕ) → P (stores board (length mem) k x)
   unfolding stores
   stores-have k =
       if-both P (eqb k 43) (l .of-special _ _) (

@@ -93,17 +93,18 @@ pub record Lawful (picsr : ℕ) (e : Effect) : Type 0 where
 
 -- ---- what an effect may write to, whatever its core's state: a word of that state, and bytes in one word of memory
 
--- bytes in one word of a memory of len bytes
-pub record InWord (len : ℕ) (s : Store) : Type 0 where
+-- bytes in one word of a memory of len bytes, none below the board's limit
+pub record InWord (board : Board) (len : ℕ) (s : Store) : Type 0 where
   pub wide : Width (s .width)
+  pub above : board .limit ≤ s .address
   pub inside : s .address + s .width ≤ len
   pub in-word : s .address % 4 + s .width ≤ 4
 
-pub data SoundStore (len : ℕ) (s : Store) : Type 0 where
-  none : s .width ≡ 0 → SoundStore len s
-  some : InWord len s → SoundStore len s
+pub data SoundStore (board : Board) (len : ℕ) (s : Store) : Type 0 where
+  none : s .width ≡ 0 → SoundStore board len s
+  some : InWord board len s → SoundStore board len s
 
 -- len is the length of memory
-pub record Sound (len : ℕ) (e : Effect) : Type 0 where
+pub record Sound (board : Board) (len : ℕ) (e : Effect) : Type 0 where
   pub place-lt : e .place < stateWords
-  pub sound-store : SoundStore len (e .store)
+  pub sound-store : SoundStore board len (e .store)

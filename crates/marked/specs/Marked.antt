@@ -15,7 +15,7 @@ use Rattle.arith.specs.Sums.{sum, difference}
 use Rattle.arith.specs.Compare.{holds}
 use Rattle.arith.specs.Place.{least}
 use Rattle.arith.specs.Status.{DSX}
-use Rattle.memory.specs.Memory.{access}
+use Rattle.memory.specs.Memory.{noLimit, access}
 use Rattle.effect.specs.State.{stateWords, pcAt, srAt, epcrAt, eearAt, esrAt, modeAt, running}
 use Rattle.commit.specs.Commit.{wordAt, put, statesAfter, memoryAfter}
 use Rattle.semantics.specs.Meaning.{effectOf}
@@ -59,7 +59,7 @@ reset r3 = put (put (put (put (put (zeros stateWords) 0 pcAt 0x100) 0 srAt 0x800
 abbrev executed : List ℕ → List ℕ → List ℕ → List ℕ
 executed mem s [] = s
 executed mem s (w ∷ ws) =
-    let e = effectOf (record { cores = 1 }) mem s 0 (decode w) in executed (memoryAfter mem e) (statesAfter s 0 e) ws
+    let e = effectOf (record { cores = 1; limit = noLimit }) mem s 0 (decode w) in executed (memoryAfter mem e) (statesAfter s 0 e) ws
 
 -- the definitions agree with the example
 abbrev pub right : Example → Bool
@@ -72,7 +72,7 @@ right (sum-flags a b cy ov) = eqb (sum a b 0 .carry) cy && eqb (sum a b 0 .overf
 right (difference-flags a b cy ov) = eqb (difference a b .carry) cy && eqb (difference a b .overflow) ov
 right (compare-is n a b t) = same (holds n a b) t
 right (ff1-is x n) = eqb (least 32 x) n
-right (access-is n len at a) = eqb (vectorOf (access n len at)) (vectorOf a)
+right (access-is n len at a) = eqb (vectorOf (access n noLimit len at)) (vectorOf a)
 right (run-leaves len r3 ws place v) = eqb (wordAt (executed (zeros len) (reset r3) ws) 0 place) v
 
 abbrev pub gts : ℕ

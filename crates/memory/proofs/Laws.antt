@@ -14,9 +14,10 @@ use lib.Arith.{mod-mul, digits-lt}
 use lib.ListN.{length, getD, set, length-set}
 use lib.Seq.{getD-set-same, getD-set-other}
 use Rattle.bits.specs.Choice.{if_then_else_}
+use Rattle.bits.proofs.Cases.{if-both}
 use Rattle.isa.specs.declared.vectors.Cause.{Cause}
 use Rattle.isa.specs.declared.vectors.Cause.the-variants.{Bus, Alignment}
-use Rattle.memory.specs.Memory.{Width, byte-wide, half-wide, word-wide, loaded, stored, memoryWord, access, causeOf}
+use Rattle.memory.specs.Memory.{Width, byte-wide, half-wide, word-wide, loaded, stored, memoryWord, noLimit, access, causeOf}
 use Rattle.memory.specs.declared.Access.{Access}
 use Rattle.memory.specs.declared.Access.the-variants.{Granted, Fault}
 use Rattle.memory.proofs.Access.{the-type}
@@ -123,38 +124,56 @@ aligned-in-word word-wide at h = omega arith
 
 -- ---- the test, case by case
 
-pub misaligned : (n len at : ℕ) → 0 < at % n → access n len at ≡ some Alignment
+module _ (n limit len at : ℕ) where
+  pub misaligned : 0 < at % n → access n limit len at ≡ some Alignment
+  unfolding access
+  misaligned h = simp (lt-ltb _ _ h)
+
+  pub below-limit : at % n ≡ 0 → at < limit → access n limit len at ≡ some Bus
+  unfolding access
+  below-limit h i = let a : at % n ≤ 0 = omega arith in simp (le-ltb _ _ a, lt-ltb _ _ i)
+
+  pub bus-error : at % n ≡ 0 → len < at + n → access n limit len at ≡ some Bus
+  unfolding access
+  bus-error h i =
+      let a : at % n ≤ 0 = omega arith in
+      rw (le-ltb 0 (at % n) a, lt-ltb len (at + n) i) (if-both (λ (o : Option Cause). o ≡ some Bus) (ltb at limit) refl refl)
+
+  pub granted : at % n ≡ 0 → limit ≤ at → at + n ≤ len → access n limit len at ≡ none
+  unfolding access
+  granted h l i = let a : at % n ≤ 0 = omega arith in simp (le-ltb _ _ a, le-ltb _ _ l, le-ltb _ _ i)
+
+-- with no limit the test is document 01's
+pub unlimited : (n len at : ℕ) → access n noLimit len at ≡ (if ltb 0 (at % n) then some Alignment else (if ltb len (at + n) then some Bus else none))
 unfolding access
-misaligned n len at h = simp (lt-ltb _ _ h)
+unlimited n len at = rw (le-ltb at 0 (omega arith))
 
-pub bus-error : (n len at : ℕ) → at % n ≡ 0 → len < at + n → access n len at ≡ some Bus
-unfolding access
-bus-error n len at h i = let a : at % n ≤ 0 = omega arith in simp (le-ltb _ _ a, lt-ltb _ _ i)
+-- an access that a test refuses is not granted
+passes : (b : Bool) (cause : Cause) (o : Option Cause) → (if b then some cause else o) ≡ none → (b ≡ false) × (o ≡ none)
+passes true cause o e = absurd (let z : _≡_ {A = ℕ} 0 1 = cc in omega arith)
+passes false cause o e = (refl, e)
 
-pub granted : (n len at : ℕ) → at % n ≡ 0 → at + n ≤ len → access n len at ≡ none
-unfolding access
-granted n len at h i = let a : at % n ≤ 0 = omega arith in simp (le-ltb _ _ a, le-ltb _ _ i)
+-- only one that passes all three tests is
+module _ (n limit len at : ℕ) (e : access n limit len at ≡ none) where
+  passed : (at % n ≤ 0) × ((limit ≤ at) × (at + n ≤ len))
+  unfolding access
+  passed =
+      let a = passes (ltb 0 (at % n)) _ _ e in
+      let b = passes (ltb at limit) _ _ (a .1) in
+      let c = passes (ltb len (at + n)) _ _ (b .1) in
+      (ltb-false 0 (at % n) (a .0), (ltb-false at limit (b .0), ltb-false len (at + n) (c .0)))
 
--- only an access that passes both tests is granted
-both : (a b : Bool) → _≡_ {A = Option Cause} (if a then some Alignment else (if b then some Bus else none)) none → (a ≡ false) × (b ≡ false)
-both true b e = absurd (let z : _≡_ {A = ℕ} 0 1 = cc in omega arith)
-both false true e = absurd (let z : _≡_ {A = ℕ} 0 1 = cc in omega arith)
-both false false e = (refl, refl)
+  pub granted-aligned : at % n ≡ 0
+  granted-aligned = let h : at % n ≤ 0 = passed .0 in omega arith
 
-passed : (n len at : ℕ) → access n len at ≡ none → (at % n ≤ 0) × (at + n ≤ len)
-unfolding access
-passed n len at e =
-    let h = both (ltb 0 (at % n)) (ltb len (at + n)) e in
-    (ltb-false 0 (at % n) (h .0), ltb-false len (at + n) (h .1))
+  pub granted-above : limit ≤ at
+  granted-above = passed .1 .0
 
-pub granted-aligned : (n len at : ℕ) → access n len at ≡ none → at % n ≡ 0
-granted-aligned n len at e = let h : at % n ≤ 0 = passed n len at e .0 in omega arith
+  pub granted-inside : at + n ≤ len
+  granted-inside = passed .1 .1
 
-pub granted-inside : (n len at : ℕ) → access n len at ≡ none → at + n ≤ len
-granted-inside n len at e = passed n len at e .1
-
-pub granted-in-word : {n : ℕ} → Width n → (len at : ℕ) → access n len at ≡ none → at % 4 + n ≤ 4
-granted-in-word {n} w len at e = aligned-in-word w at (granted-aligned n len at e)
+  pub granted-in-word : Width n → at % 4 + n ≤ 4
+  granted-in-word w = aligned-in-word w at granted-aligned
 
 -- ---- the answer in an arm of a `match`, which knows its tag
 

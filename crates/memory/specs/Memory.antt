@@ -31,13 +31,19 @@ stored (suc n) mem at v = set (stored n mem (at + 1) v) at (v / 256 ^ n % 256)
 abbrev pub memoryWord : List ℕ → ℕ → ℕ
 memoryWord mem k = loaded 4 mem (4 * k)
 
--- One instruction: "Loads, stores and p.*: alignment first (words 4, halves 2), then bus error if any byte is outside." The cause of the
--- exception that an access raises, if it raises one; its vector is isa's. Memory has len bytes. The sum is exact: an access past the highest
--- address does not go on at address 0
-unfoldable pub access : ℕ → ℕ → ℕ → Option Cause
-access n len at =
+-- Document 02, note 5: "a limit in bytes, 0 for none": the address where the read-only start of memory ends
+abbrev pub noLimit : ℕ
+noLimit = 0
+
+-- One instruction: "Loads, stores and p.*: alignment first (words 4, halves 2), then bus error if any byte is outside." Document 02, note 5: "Any
+-- store or l.swa reaching below it raises bus error after alignment": its lowest byte, the one at `at`, is below the limit, which is the run's for
+-- stores and l.swa, and noLimit for loads, l.lwa and p.*. The cause of the exception that an access to a memory of len bytes raises, if it raises
+-- one; its vector is isa's. The sum is exact: an access past the highest address does not go on at address 0
+unfoldable pub access : ℕ → ℕ → ℕ → ℕ → Option Cause
+access n limit len at =
     if ltb 0 (at % n) then some Alignment else
-    (if ltb len (at + n) then some Bus else none)
+    (if ltb at limit then some Bus else
+    (if ltb len (at + n) then some Bus else none))
 
 -- the same of the code's answer
 abbrev pub causeOf : Access → Option Cause

@@ -12,13 +12,16 @@ pub enum Access {
     Fault(Cause),
 }
 
-// The test that comes before every access, in a memory of len bytes.
-pub fn test(len: usize, address: u32, width: u32) -> Access
+// The test that comes before every access, in a memory of len bytes. Stores and l.swa pass the run's limit; loads, l.lwa and p.* pass 0.
+pub fn test(limit: u32, len: usize, address: u32, width: u32) -> Access
     requires { ⌜ Width width ⌝ }
-    ensures { λ r. ⌜ causeOf r ≡ access width len address ⌝ }
+    ensures { λ r. ⌜ causeOf r ≡ access width limit len address ⌝ }
 {
     if address & (width - 1) != 0 {
         return Access::Fault(Cause::Alignment);
+    }
+    if address < limit {
+        return Access::Fault(Cause::Bus);
     }
     if len < address as usize + width as usize {
         return Access::Fault(Cause::Bus);

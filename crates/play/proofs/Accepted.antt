@@ -15,7 +15,7 @@ use Rattle.lawful.specs.Inner.{Mode, is-running}
 use Rattle.lawful.specs.Accepted.{accepted}
 use Rattle.lawful.proofs.Accepted.{means-accepted}
 use Rattle.refusal.specs.Lent.{boardOf}
-use Rattle.refusal.specs.Refusal.{everyFrom, memoryFits, statesFit, statesObey, maxSchedule, scheduleFits, namesCores, levelsFit, cacheFits, entryRight, entriesRight, fastRefusal}
+use Rattle.refusal.specs.Refusal.{everyFrom, memoryFits, statesFit, statesObey, maxSchedule, scheduleFits, namesCores, levelsFit, limitFits, cacheFits, entryRight, entriesRight, fastRefusal}
 use Rattle.refusal.proofs.Tests.{of-below}
 use Rattle.refusal.proofs.Passes.{none-refused}
 use Rattle.card.specs.Card.{Job, every}
@@ -104,7 +104,7 @@ states-fit n m l h =
 
 module _ (j : Job) (h : Sound j) where
   pub job-accepted : fastRefusal (lentBy j) (emptyCache j) ≡ 0
-  unfolding scheduleFits namesCores levelsFit cacheFits entriesRight
+  unfolding scheduleFits namesCores levelsFit limitFits cacheFits entriesRight
   job-accepted =
       let m : length (memoryOf j) ≡ j .memory = length-memory j in
       let s : length (statesOf j) ≡ j .cores * stateWords = length-states (j .entry) (j .cores) in
@@ -120,6 +120,7 @@ module _ (j : Job) (h : Sound j) where
         names-cores =
             rw c (every-from (j .cores) (scheduleOf j) 0 (every-entry (λ d. ltb d (j .cores)) (j .schedule) (j .steps) (omega (arith, h .digits-low)) (h .cores-named)));
         levels-fit = equal (length (levelsOf j)) (length (scheduleOf j)) (length-replicate (j .steps) 0 ∙ sym n);
+        limit-fits = below 0 (length (memoryOf j)) (omega arith);
       })
       (record {
         cache-fits = equal (length (emptyCache j)) (length (memoryOf j) / 4) e;

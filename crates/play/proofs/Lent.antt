@@ -1,4 +1,4 @@
--- What a good card's run is lent: the first parts of five arrays. Assumes nothing.
+-- What a good card's run is lent: the first parts of five arrays, at limit 0. Assumes nothing.
 use mathlib.Core.Path.{_≡_, ap, _∙_}
 use mathlib.Core.List.{List}
 use Prim.Native.Nat.{ℕ, _*_, _/_, _≤_}
@@ -48,7 +48,7 @@ module _ (card : List ℕ) (j : Job) (image s₀ s t₀ t : List ℕ) (r : Ready
 
   -- what the run is lent
   abbrev parts : Lent
-  parts = lent (take (j .memory) image) (take (j .cores * stateWords) s) (take (j .steps) t) (take (j .steps) (replicate maxSteps 0))
+  parts = lent (take (j .memory) image) (take (j .cores * stateWords) s) (take (j .steps) t) (take (j .steps) (replicate maxSteps 0)) 0
 
   abbrev cache : List ℕ
   cache = take (j .memory / 4) (replicate cacheWords 0)

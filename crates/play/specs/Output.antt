@@ -33,9 +33,9 @@ runCounts l cache = record { executed = plainRun l .executed; raised = plainRun 
 unfoldable pub runText : Lent → List ℕ → List ℕ
 runText l cache = resultText (runCounts l cache) (plainRun l .states)
 
--- what a good card's run is lent
+-- what a good card's run is lent. Document 02, note 5: "the card runner uses 0"
 abbrev pub lentBy : Job → Lent
-lentBy j = lent (memoryOf j) (statesOf j) (scheduleOf j) (levelsOf j)
+lentBy j = lent (memoryOf j) (statesOf j) (scheduleOf j) (levelsOf j) 0
 
 unfoldable pub jobText : Job → List ℕ
 jobText j = runText (lentBy j) (emptyCache j)

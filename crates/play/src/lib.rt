@@ -28,6 +28,9 @@ const STATES: usize = CORES * state::STATE_WORDS;
 
 const STEPS: usize = card::MAX_STEPS as usize;
 
+// No part of a card's memory is read-only.
+const NO_LIMIT: u32 = 0;
+
 fn print_refusal(out: &mut [u8], cause: Cause, line: u32) -> Written
     requires { ⌜ outputRoom ≤ length (now out) ⌝ }
     ensures { λ r. ⌜ Printed (refusalText (refusal cause) line) (now (out .entry)) (now (out .exit)) r ⌝ }
@@ -45,11 +48,11 @@ fn print_run(
     cache: &mut [u64],
     out: &mut [u8],
 ) -> Written
-    requires { ⌜ fastRefusal (lent (now memory) (now states) (now schedule) (now levels)) (now cache) ≡ 0 ⌝ }
+    requires { ⌜ fastRefusal (lent (now memory) (now states) (now schedule) (now levels) 0) (now cache) ≡ 0 ⌝ }
     requires { ⌜ outputRoom ≤ length (now out) ⌝ }
-    ensures { λ r. ⌜ Printed (runText (lent (now (memory .entry)) (now (states .entry)) (now (schedule .entry)) (now (levels .entry))) (now (cache .entry))) (now (out .entry)) (now (out .exit)) r ⌝ }
+    ensures { λ r. ⌜ Printed (runText (lent (now (memory .entry)) (now (states .entry)) (now (schedule .entry)) (now (levels .entry)) 0) (now (cache .entry))) (now (out .entry)) (now (out .exit)) r ⌝ }
 {
-    match engine::fast::fast_run(memory, states, schedule, levels, cache) {
+    match engine::fast::fast_run(memory, states, schedule, levels, NO_LIMIT, cache) {
         Answer::Ran(counts) => report::write_result(out, counts, states),
         // Cannot be: what a good card asks for is accepted.
         Answer::Refused(_) => Written::TooSmall,

@@ -1,5 +1,5 @@
 -- What a run is lent and what it leaves: document 01, "What is lent"; document 02, note 4: "Runs take, beside the schedule, one 32-bit word of line
--- levels for each entry." The decode cache (the paper's table), which the fast run alone is lent,
+-- levels for each entry"; note 5: "Runs take a limit in bytes, 0 for none." The decode cache (the paper's table), which the fast run alone is lent,
 -- stands beside it.
 use mathlib.Core.List.{List}
 use Prim.Native.Nat.{ℕ}
@@ -11,9 +11,10 @@ pub record Lent : Type 0 where
   pub states : List ℕ
   pub schedule : List ℕ
   pub levels : List ℕ
+  pub limit : ℕ
 
-abbrev pub lent : List ℕ → List ℕ → List ℕ → List ℕ → Lent
-lent mem s schedule levels = record { memory = mem; states = s; schedule = schedule; levels = levels }
+abbrev pub lent : List ℕ → List ℕ → List ℕ → List ℕ → ℕ → Lent
+lent mem s schedule levels limit = record { memory = mem; states = s; schedule = schedule; levels = levels; limit = limit }
 
 -- memory and states afterwards
 pub record Left : Type 0 where
@@ -23,6 +24,6 @@ pub record Left : Type 0 where
 abbrev pub left : List ℕ → List ℕ → Left
 left mem s = record { memory = mem; states = s }
 
--- what every instruction of a run is given: the core count
+-- what every instruction of a run is given: the core count, and the limit
 abbrev pub boardOf : Lent → Board
-boardOf l = record { cores = coreCount (l .states) }
+boardOf l = record { cores = coreCount (l .states); limit = l .limit }

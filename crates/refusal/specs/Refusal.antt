@@ -1,4 +1,4 @@
--- What a run refuses (the paper's "turned back"): document 01, "What is lent" and "Turned back"; document 02, note 4.
+-- What a run refuses (the paper's "turned back"): document 01, "What is lent" and "Turned back"; document 02, notes 4 and 5.
 use mathlib.Core.Bool.{Bool, true, _&&_, _||_}
 use mathlib.Core.List.{List, [], _∷_, _++_}
 use Prim.Native.Nat.{ℕ, zero, suc, _+_, _/_, _%_}
@@ -12,7 +12,7 @@ use Rattle.decode_cache.specs.Cache.{formAt}
 use Rattle.lawful.specs.Accepted.{accepted}
 use Rattle.refusal.specs.Lent.{Lent, boardOf}
 use Rattle.refusal.specs.declared.cause.Refusal.{Refusal}
-use Rattle.refusal.specs.declared.cause.Refusal.the-variants.{MemoryLength, StatesLength, StateRule, ScheduleLength, NoSuchCore, LevelsLength, CacheLength, CacheEntry}
+use Rattle.refusal.specs.declared.cause.Refusal.the-variants.{MemoryLength, StatesLength, StateRule, ScheduleLength, NoSuchCore, LevelsLength, ReadOnlyLimit, CacheLength, CacheEntry}
 use Rattle.refusal.specs.declared.cause.Verdict.{Verdict}
 use Rattle.refusal.specs.declared.cause.Verdict.the-variants.{Accepted, Refused}
 
@@ -52,6 +52,10 @@ namesCores cores schedule = everyFrom (λ i core. ltb core cores) 0 schedule
 unfoldable pub levelsFit : ℕ → ℕ → Bool
 levelsFit schedule levels = eqb levels schedule
 
+-- Document 02, note 5: "a limit that is no multiple of 4 or exceeds memory" is turned back; memory is its length, which the limit may be
+unfoldable pub limitFits : ℕ → ℕ → Bool
+limitFits memory limit = eqb (limit % 4) 0 && leb limit memory
+
 -- "Table (fast run only): one 64-bit entry for each memory word."
 unfoldable pub cacheFits : ℕ → ℕ → Bool
 cacheFits memory cache = eqb cache (memory / 4)
@@ -71,7 +75,8 @@ pub record Rule : Type 0 where
 abbrev pub rule : ℕ → Bool → Rule
 rule number passes = record { number = number; passes = passes }
 
--- "Runs test 1 to 7 in this order"; document 02, note 4: "with 11, after 5": the rules of both runs, and those on the decode cache, in the order tested
+-- "Runs test 1 to 7 in this order"; document 02, note 4: "with 11, after 5"; note 5: "with 12, after 11": the rules of both runs, and those on the decode cache, in
+-- the order tested
 abbrev pub runRules : Lent → List Rule
 runRules l =
     rule 1 (memoryFits (length (l .memory))) ∷
@@ -80,6 +85,7 @@ runRules l =
     rule 4 (scheduleFits (length (l .schedule))) ∷
     rule 5 (namesCores (coreCount (l .states)) (l .schedule)) ∷
     rule 11 (levelsFit (length (l .schedule)) (length (l .levels))) ∷
+    rule 12 (limitFits (length (l .memory)) (l .limit)) ∷
     []
 
 abbrev pub cacheRules : Board → List ℕ → List ℕ → List Rule
@@ -107,6 +113,7 @@ refusalNumber StateRule = 3
 refusalNumber ScheduleLength = 4
 refusalNumber NoSuchCore = 5
 refusalNumber LevelsLength = 11
+refusalNumber ReadOnlyLimit = 12
 refusalNumber CacheLength = 6
 refusalNumber CacheEntry = 7
 

@@ -11,6 +11,7 @@ pub enum Refusal {
     ScheduleLength,
     NoSuchCore,
     LevelsLength,
+    ReadOnlyLimit,
     CacheLength,
     CacheEntry,
 }
@@ -32,6 +33,7 @@ pub fn number(cause: Refusal) -> u64
         Refusal::ScheduleLength => 4,
         Refusal::NoSuchCore => 5,
         Refusal::LevelsLength => 11,
+        Refusal::ReadOnlyLimit => 12,
         Refusal::CacheLength => 6,
         Refusal::CacheEntry => 7,
     }

@@ -2,7 +2,7 @@
 ghost use mathlib.Core.Path.{_≡_};
 ghost use Rattle.effect.specs.declared.types.Board.{Board};
 ghost use Rattle.refusal.specs.Lent.{lent};
-ghost use Rattle.refusal.specs.Refusal.{memoryFits, statesFit, cacheRules, firstBroken, plainRefusal, fastRefusal, verdictNumber};
+ghost use Rattle.refusal.specs.Refusal.{memoryFits, statesFit, limitFits, cacheRules, firstBroken, plainRefusal, fastRefusal, verdictNumber};
 use crate::cause::Refusal;
 use crate::cause::Verdict;
 use effect::state;
@@ -36,9 +36,19 @@ fn states_fit(len: usize) -> bool
     len / state::STATE_WORDS <= 4
 }
 
-// Refusals 1 to 5 and 11, which both runs have.
-pub fn check(memory: &[u8], states: &[u32], schedule: &[u8], levels: &[u32]) -> Verdict
-    ensures { λ r. ⌜ verdictNumber r ≡ plainRefusal (lent (now (memory .entry)) (now (states .entry)) (now (schedule .entry)) (now (levels .entry))) ⌝ }
+// All of memory may be read-only.
+fn limit_fits(len: usize, limit: u32) -> bool
+    ensures { λ r. ⌜ r ≡ limitFits len limit ⌝ }
+{
+    if limit % 4 != 0 {
+        return false;
+    }
+    limit as usize <= len
+}
+
+// Refusals 1 to 5, 11 and 12, which both runs have.
+pub fn check(memory: &[u8], states: &[u32], schedule: &[u8], levels: &[u32], limit: u32) -> Verdict
+    ensures { λ r. ⌜ verdictNumber r ≡ plainRefusal (lent (now (memory .entry)) (now (states .entry)) (now (schedule .entry)) (now (levels .entry)) limit) ⌝ }
 {
     if !memory_fits(memory.len()) {
         return Verdict::Refused(Refusal::MemoryLength);
@@ -57,6 +67,9 @@ pub fn check(memory: &[u8], states: &[u32], schedule: &[u8], levels: &[u32]) -> 
     }
     if levels.len() != schedule.len() {
         return Verdict::Refused(Refusal::LevelsLength);
+    }
+    if !limit_fits(memory.len(), limit) {
+        return Verdict::Refused(Refusal::ReadOnlyLimit);
     }
     Verdict::Accepted
 }
@@ -80,11 +93,12 @@ pub fn check_fast(
     states: &[u32],
     schedule: &[u8],
     levels: &[u32],
+    limit: u32,
     cache: &[u64],
 ) -> Verdict
-    ensures { λ r. ⌜ verdictNumber r ≡ fastRefusal (lent (now (memory .entry)) (now (states .entry)) (now (schedule .entry)) (now (levels .entry))) (now (cache .entry)) ⌝ }
+    ensures { λ r. ⌜ verdictNumber r ≡ fastRefusal (lent (now (memory .entry)) (now (states .entry)) (now (schedule .entry)) (now (levels .entry)) limit) (now (cache .entry)) ⌝ }
 {
-    let verdict = check(memory, states, schedule, levels);
+    let verdict = check(memory, states, schedule, levels, limit);
     match verdict {
         Verdict::Accepted => check_cache(memory, cache),
         Verdict::Refused(cause) => Verdict::Refused(cause),

@@ -89,7 +89,7 @@ module _ (board : Board) (mem : List ℕ) (k : ℕ) (x : Inputs) where
   pub is-compare-immediate : IsCompareImmediate k → compares (k - firstCompareImmediate) x (x .immediate) ≡ meaning board mem k x
   is-compare-immediate h = at 6 firstCompareImmediate tt (h .0) (h .1)
 
-  pub is-store : IsStore k → stores (length mem) k x ≡ meaning board mem k x
+  pub is-store : IsStore k → stores board (length mem) k x ≡ meaning board mem k x
   is-store h = at 7 firstStore tt (h .0) (h .1)
 
   pub is-arithmetic : IsArithmetic k → arithmetic k x ≡ meaning board mem k x

@@ -90,13 +90,13 @@ immediates board k x =
     illegal x
 
 -- l.mtspr and the stores
-unfoldable pub stores : ℕ → ℕ → Inputs → Effect
-stores len k x =
+unfoldable pub stores : Board → ℕ → ℕ → Inputs → Effect
+stores board len k x =
     if eqb k 43 then setsSpecialRegister x (specialNumber x) (x .b) else  -- l.mtspr
-    if eqb k 44 then storeConditional x len else  -- l.swa
-    if eqb k 45 then store x len 4 else  -- l.sw
-    if eqb k 46 then store x len 1 else  -- l.sb
-    if eqb k 47 then store x len 2 else  -- l.sh
+    if eqb k 44 then storeConditional board x len else  -- l.swa
+    if eqb k 45 then store board x len 4 else  -- l.sw
+    if eqb k 46 then store board x len 1 else  -- l.sb
+    if eqb k 47 then store board x len 2 else  -- l.sh
     illegal x
 
 -- sums and differences of registers
@@ -164,7 +164,7 @@ groups board mem k x =
     (firstImmediate, addImmediates k x) ∷
     (firstCompareImmediate, immediates board k x) ∷
     (firstStore, compares (k - firstCompareImmediate) x (x .immediate)) ∷
-    (firstArithmetic, stores (length mem) k x) ∷
+    (firstArithmetic, stores board (length mem) k x) ∷
     (firstLogic, arithmetic k x) ∷
     (firstCompare, logic k x) ∷
     (firstCache, compares (k - firstCompare) x (x .b)) ∷

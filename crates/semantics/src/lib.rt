@@ -109,16 +109,16 @@ pub fn immediate(board: Board, kind: u8, x: Inputs) -> Written
 }
 
 // The stores and l.mtspr.
-pub fn store(len: usize, kind: u8, x: Inputs) -> Action
+pub fn store(board: Board, len: usize, kind: u8, x: Inputs) -> Action
     requires { ⌜ IsStore kind ⌝ }
-    ensures { λ r. ⌜ effectBy x r ≡ stores len kind x ⌝ }
+    ensures { λ r. ⌜ effectBy x r ≡ stores board len kind x ⌝ }
 {
     match kind {
         43 => Action::Advance(special::write(x, arith::or(x.a, x.immediate), x.b)), // l.mtspr
-        44 => accesses::store_conditional(x, len), // l.swa
-        45 => accesses::store(x, len, 4), // l.sw
-        46 => accesses::store(x, len, 1), // l.sb
-        47 => accesses::store(x, len, 2), // l.sh
+        44 => accesses::store_conditional(board, x, len), // l.swa
+        45 => accesses::store(board, x, len, 4), // l.sw
+        46 => accesses::store(board, x, len, 1), // l.sb
+        47 => accesses::store(board, x, len, 2), // l.sh
         _ => raised::illegal(x), // no kind comes here
     }
 }

@@ -75,7 +75,7 @@ right-filled board mem c k r j i q = by-equality j k same other
         let o : getD (set c k (formAt board mem k)) j 0 ≡ getD c j 0 = getD-set-other c k j (formAt board mem k) 0 n in
         o ∙ r j l (λ z. q (o ∙ z))
 
-right-touched : (board : Board) (mem c : List ℕ) (e : Effect) → Sound (length mem) e → Right board c mem
+right-touched : (board : Board) (mem c : List ℕ) (e : Effect) → Sound board (length mem) e → Right board c mem
     → Right board (set c (touched e) 0) (memoryAfter mem e)
 unfolding formAt
 right-touched board mem c e sound r j i q = by-equality j (touched e) same other
@@ -91,9 +91,9 @@ right-touched board mem c e sound r j i q = by-equality j (touched e) same other
     other : (j ≡ touched e → ⊥) → getD (set c (touched e) 0) j 0 ≡ decode (memoryWord (memoryAfter mem e) j)
     other n =
         let o : getD (set c (touched e) 0) j 0 ≡ getD c j 0 = getD-set-other c (touched e) j 0 0 n in
-        o ∙ r j l (λ z. q (o ∙ z)) ∙ ap decode (sym (other-words-kept mem e sound j n))
+        o ∙ r j l (λ z. q (o ∙ z)) ∙ ap decode (sym (other-words-kept board mem e sound j n))
 
-right-emptied : (board : Board) (mem c : List ℕ) (e : Effect) → Sound (length mem) e → Right board c mem
+right-emptied : (board : Board) (mem c : List ℕ) (e : Effect) → Sound board (length mem) e → Right board c mem
     → Right board (emptied e c) (memoryAfter mem e)
 unfolding emptied
 right-emptied board mem c e sound r = go (writesMemory e) refl
@@ -111,7 +111,7 @@ pub entry-as-it-stands : (board : Board) (x : Fast) (core w : ℕ) → isFetch (
 unfolding fastEntry fastFetch
 entry-as-it-stands board x core w i e = rw (i, e, ne-eqb (decode w) 0 (decode-filled w))
 
-unfetched-stores : (s : List ℕ) (core : ℕ) → writesMemory (unfetched s core) ≡ false
+pub unfetched-stores : (s : List ℕ) (core : ℕ) → writesMemory (unfetched s core) ≡ false
 unfolding unfetched raises
 unfetched-stores s core = if-both (λ (e : Effect). writesMemory e ≡ false) (isInterrupted s core) refl refl
 
@@ -122,7 +122,7 @@ pub record Agrees (board : Board) (y : Fast) (p : Plain) (h : History) : Type 0 
   pub right-again : Right board (y .cache) (y .plain .memory)
 
 module _ (board : Board) (x : Fast) (core : ℕ) (right : Right board (x .cache) (x .plain .memory)) where
-  done-agrees : (k : ℕ) (e : Effect) → Sound (length (x .plain .memory)) e
+  done-agrees : (k : ℕ) (e : Effect) → Sound board (length (x .plain .memory)) e
       → Agrees board
       (record { plain = plainAfter (x .plain) core e; cache = emptied e (set (x .cache) k (formAt board (x .plain .memory) k)); reused = x .reused + filled (getD (x .cache) k 0) })
       (plainAfter (x .plain) core e)

@@ -1,4 +1,4 @@
--- The plain run: document 01, "Plain run"; document 02, note 4.
+-- The plain run: document 01, "Plain run"; document 02, notes 4 and 5.
 use mathlib.Core.Bool.{Bool, _&&_, not}
 use mathlib.Core.List.{List, [], _∷_}
 use Prim.Native.Nat.{ℕ, _+_, _/_}
@@ -97,7 +97,7 @@ plainFrom board (entry ∷ more) p = plainFrom board more (plainStep board p ent
 abbrev pub start : Lent → Plain
 start l = record { memory = l .memory; states = l .states; executed = 0; raised = 0 }
 
--- "it takes memory, sheets and schedule" and, beside that, the levels
+-- "it takes memory, sheets and schedule" and, beside these, the levels and the limit
 unfoldable pub plainRun : Lent → Plain
 plainRun l = plainFrom (boardOf l) (scheduledBy l) (start l)
 

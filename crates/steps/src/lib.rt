@@ -128,14 +128,16 @@ pub fn run(
     states: &mut [u32],
     schedule: &[u8],
     levels: &[u32],
+    limit: u32,
     cache: &mut [u64],
 ) -> Counts
-    requires { ⌜ Runnable (lent (now memory) (now states) (now schedule) (now levels)) (now cache) ⌝ }
-    ensures { λ r. ⌜ Finished (lent (now (memory .entry)) (now (states .entry)) (now (schedule .entry)) (now (levels .entry))) (now (cache .entry)) (now (memory .exit)) (now (states .exit)) (now (cache .exit)) r ⌝ }
+    requires { ⌜ Runnable (lent (now memory) (now states) (now schedule) (now levels) limit) (now cache) ⌝ }
+    ensures { λ r. ⌜ Finished (lent (now (memory .entry)) (now (states .entry)) (now (schedule .entry)) (now (levels .entry)) limit) (now (cache .entry)) (now (memory .exit)) (now (states .exit)) (now (cache .exit)) r ⌝ }
 {
     let cores = states.len() / state::STATE_WORDS;
     let board = Board {
         cores: cores as u32,
+        limit,
     };
     let straight = straight_mode(states, levels);
     let mut counts = Counts {

@@ -19,8 +19,8 @@ use Rattle.steps.proofs.run.Statement.{statement}
 use Rattle.steps.proofs.run.Tie as tie
 
 abbrev Inv-loop : tie.InvT-loop
-Inv-loop memory₀ states₀ schedule levels cache₀ cores board straight counts₀ i₀ memory states cache counts i =
-    let board = boardOf (lent memory₀ states₀ schedule levels) in
+Inv-loop memory₀ states₀ schedule levels limit cache₀ cores board straight counts₀ i₀ memory states cache counts i =
+    let board = boardOf (lent memory₀ states₀ schedule levels limit) in
     (fastFrom board (scheduled (drop i schedule) (drop i levels)) (fastOf memory states cache counts)
     ≡ fastFrom board (scheduled schedule levels) (fastOf memory₀ states₀ cache₀ noCounts))
     × AtMost i counts
@@ -33,10 +33,10 @@ Inv-loop memory₀ states₀ schedule levels cache₀ cores board straight count
     × (isQuiet states₀ levels ≡ true → NoneLatched states)
 
 abbrev μ-loop : tie.MeasureT-loop
-μ-loop memory₀ states₀ schedule levels cache₀ cores board straight counts₀ i₀ memory states cache counts i = length schedule - i
+μ-loop memory₀ states₀ schedule levels limit cache₀ cores board straight counts₀ i₀ memory states cache counts i = length schedule - i
 
-cast-t14 : tie.Need-cast-t14 Inv-loop μ-loop
-cast-t14 c = search needs
+cast-t15 : tie.Need-cast-t15 Inv-loop μ-loop
+cast-t15 c = search needs
 
 straight-mode-requires : tie.Need-straight-mode-requires Inv-loop μ-loop
 straight-mode-requires c κs = search needs
@@ -61,11 +61,11 @@ shared-slice-read-of-u8 c = search needs
 of-u8-requires : tie.Need-of-u8-requires Inv-loop μ-loop
 of-u8-requires c κs = search needs
 
-mul-t21 : tie.Need-mul-t21 Inv-loop μ-loop
-mul-t21 c = search needs
+mul-t22 : tie.Need-mul-t22 Inv-loop μ-loop
+mul-t22 c = search needs
 
-shared-slice-read-t23 : tie.Need-shared-slice-read-t23 Inv-loop μ-loop
-shared-slice-read-t23 c = search needs
+shared-slice-read-t24 : tie.Need-shared-slice-read-t24 Inv-loop μ-loop
+shared-slice-read-t24 c = search needs
 
 step-requires : tie.Need-step-requires Inv-loop μ-loop
 step-requires c κs =
@@ -149,13 +149,13 @@ run-spec =
     (tie.spec
     Inv-loop
     μ-loop
-    cast-t14
+    cast-t15
     straight-mode-requires
     loop-holds
     shared-slice-read-of-u8
     of-u8-requires
-    mul-t21
-    shared-slice-read-t23
+    mul-t22
+    shared-slice-read-t24
     step-requires
     counted-requires
     add-i

@@ -20,7 +20,7 @@ run-requires : tie.Need-run-requires
 run-requires c κs =
     let a = c .before .before .before .before .before .before .before .before .before .before .before .before .args in
     let accepted = sym (c .before .before .before .before .before .check .ensures) ∙ ap verdictNumber (c .before .before .before .enum-told .given .1) in
-    plain-runnable (lent (now (a .memory)) (now (a .states)) (now (a .schedule)) (now (a .levels))) accepted
+    plain-runnable (lent (now (a .memory)) (now (a .states)) (now (a .schedule)) (now (a .levels)) (a .limit)) accepted
 
 enum-known-verdict : tie.Need-enum-known-verdict
 enum-known-verdict c = search needs
@@ -37,7 +37,7 @@ returns c =
     let run = c .before .before .before .before .before .run in
     let told = c .before .before .before .before .before .before .before .before .before in
     let accepted = sym (told .before .before .check .ensures) ∙ ap verdictNumber (told .enum-told .given .1) in
-    plain-ran (lent (now (a .memory)) (now (a .states)) (now (a .schedule)) (now (a .levels))) _ _ _ _ accepted (run .ensures)
+    plain-ran (lent (now (a .memory)) (now (a .states)) (now (a .schedule)) (now (a .levels)) (a .limit)) _ _ _ _ accepted (run .ensures)
 
 same-length-3 : tie.Need-same-length-3
 same-length-3 c = search needs
@@ -48,7 +48,7 @@ same-length-4 c = search needs
 returns-2 : tie.Need-returns-2
 returns-2 c =
     let a = c .before .before .before .before .before .before .before .before .before .before .args in
-    plain-refused (lent (now (a .memory)) (now (a .states)) (now (a .schedule)) (now (a .levels))) _ (ap verdictNumber (sym (c .before .verdict .given .1)) ∙ c .before .before .before .check .ensures)
+    plain-refused (lent (now (a .memory)) (now (a .states)) (now (a .schedule)) (now (a .levels)) (a .limit)) _ (ap verdictNumber (sym (c .before .verdict .given .1)) ∙ c .before .before .before .check .ensures)
 
 pub plain-run-spec : {M : Type 1} → statement M
 plain-run-spec =

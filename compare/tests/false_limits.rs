@@ -1,0 +1,359 @@
+//! Engines that are wrong in one thing that note 5 of document 02 says: the
+//! battery must stop each.
+
+mod common;
+
+use common::wrong_refusal::{self, Lent, Turn, WrongRefusal};
+use common::wrong_step::{
+    assert_passed, assert_stopped, held_to, wrong, Attempt, Taken, WrongStep,
+};
+use compare::exec;
+use compare::isa;
+use compare::isa::Kind::{self, *};
+use compare::state::{Core, DSX, F};
+
+const STORES: &[Kind] = &[Swa, Sw, Sb, Sh];
+const LOADS: &[Kind] = &[Lwz, Lws, Lbz, Lbs, Lhz, Lhs];
+const TOUCHES: &[Kind] = &[Cinvalidate, Cwriteback, Cflush];
+/// Some that reach no memory.
+const OTHERS: &[Kind] = &[J, Bf, Bnf, Nop, Movhi, Addi, Ori, Add, Sub, Mul, Sfeq, Mfspr, Rfe];
+
+fn width(kind: Kind) -> u32 {
+    match kind {
+        Sb => 1,
+        Sh => 2,
+        _ => 4,
+    }
+}
+
+/// Whether an attempt finds the link to its word.
+fn finds_link(attempt: &Attempt) -> bool {
+    attempt.core.link && attempt.core.link_address == attempt.address()
+}
+
+/// The limit for what `held` holds of, and none for the rest.
+fn limit_if(attempt: &Attempt, held: bool) -> u32 {
+    if held {
+        attempt.limit
+    } else {
+        0
+    }
+}
+
+// `address + width <= limit`, a store wholly below, is no wrong engine: with the
+// address a multiple of the width and the limit of 4 it is `address < limit`.
+const WRONG_TESTS: [WrongStep; 19] = [
+    held_to("ignores the limit", STORES, |_| 0),
+    held_to("ignores it in the plain run", STORES, |it| limit_if(it, it.fast)),
+    held_to("ignores it in the fast run", STORES, |it| limit_if(it, !it.fast)),
+    held_to("holds words alone to it", STORES, |it| limit_if(it, width(it.insn.kind) == 4)),
+    held_to("holds l.sw alone to it", STORES, |it| limit_if(it, it.insn.kind == Sw)),
+    held_to("does not hold l.swa to it", &[Swa], |_| 0),
+    held_to("does not hold l.sb to it", &[Sb], |_| 0),
+    held_to("does not hold l.sh to it", &[Sh], |_| 0),
+    held_to("tests the link first", &[Swa], |it| limit_if(it, finds_link(it))),
+    held_to("lets a linked l.swa through", &[Swa], |it| limit_if(it, !finds_link(it))),
+    held_to("holds core 0 alone to it", STORES, |it| limit_if(it, it.who == 0)),
+    held_to("does not hold slots to it", STORES, |it| limit_if(it, !it.core.delay)),
+    held_to("refuses at the limit", STORES, |it| {
+        it.limit + if it.address() == it.limit { 4 } else { 0 }
+    }),
+    held_to("refuses the word at the limit", STORES, |it| it.limit + 4),
+    held_to("lets the last word below through", STORES, |it| it.limit.saturating_sub(4)),
+    held_to("lets the last byte below through", STORES, |it| {
+        limit_if(it, it.address().wrapping_add(1) != it.limit)
+    }),
+    held_to("counts the limit in words", STORES, |it| 4 * it.limit),
+    held_to("counts the address in words", STORES, |it| (it.limit / 4) & !3),
+    held_to("keeps 12 bits of the limit", STORES, |it| it.limit & 0xfff),
+];
+
+/// Ends an access below the limit in a bus error.
+fn refuse_below(taken: &mut Taken) {
+    let address = taken.address();
+    if !taken.raised && address < taken.limit {
+        taken.fail(address);
+    }
+}
+
+const WRONG_REFUSALS: [WrongStep; 6] = [
+    wrong("tests the limit before alignment", STORES, |taken| {
+        let address = taken.address();
+        if !address.is_multiple_of(width(taken.insn.kind)) && address < taken.limit {
+            taken.fail(address);
+        }
+    }),
+    wrong("tests whether the last byte is below, before alignment", STORES, |taken| {
+        let (address, width) = (taken.address(), width(taken.insn.kind));
+        if !address.is_multiple_of(width) && address.saturating_add(width) <= taken.limit {
+            taken.fail(address);
+        }
+    }),
+    wrong("refuses loads", LOADS, refuse_below),
+    wrong("refuses l.lwa", &[Lwa], refuse_below),
+    wrong("refuses p.*", TOUCHES, refuse_below),
+    wrong("refuses to fetch", OTHERS, |taken| {
+        if taken.before.pc < taken.limit {
+            taken.fail(taken.before.pc);
+        }
+    }),
+];
+
+/// Spoils what a store left that the limit turned back.
+fn if_refused(taken: &mut Taken, spoil: fn(&mut Taken)) {
+    if is_refused(taken) {
+        spoil(taken);
+    }
+}
+
+fn is_refused(taken: &Taken) -> bool {
+    let address = taken.address();
+    address.is_multiple_of(width(taken.insn.kind)) && address < taken.limit
+}
+
+/// The same of its core alone, given what it was and the address.
+fn core_if_refused(taken: &mut Taken, spoil: fn(&mut Core, &Core, u32)) {
+    if is_refused(taken) {
+        let address = taken.address();
+        spoil(&mut taken.after, &taken.before, address);
+    }
+}
+
+/// Stores what was turned back.
+fn write(taken: &mut Taken) {
+    let (at, width) = (taken.address() as usize, width(taken.insn.kind) as usize);
+    let value = taken.before.get(taken.insn.b).to_be_bytes();
+    taken.bytes[at..at + width].copy_from_slice(&value[4 - width..]);
+}
+
+/// Clears the cores' links to the word of a store.
+fn clear_links(taken: &mut Taken) {
+    let word = taken.address() & !3;
+    let linked = taken.cores.iter_mut().filter(|core| core.link && core.link_address == word);
+    linked.for_each(Core::clear_link);
+}
+
+/// Makes another entry of the word of a store.
+fn make_entry(taken: &mut Taken, of: fn(u64) -> u64) {
+    let at = taken.address() as usize / 4;
+    let word = exec::fetch(taken.bytes, 4 * at as u32).expect("a word of memory");
+    if let Some(table) = taken.table.as_deref_mut() {
+        table[at] = of(isa::decode(word));
+    }
+}
+
+const WRONG_EFFECTS: [WrongStep; 9] = [
+    wrong("writes memory", STORES, |taken| if_refused(taken, write)),
+    wrong("l.sb writes memory", &[Sb], |taken| if_refused(taken, write)),
+    wrong("l.swa writes memory", &[Swa], |taken| if_refused(taken, write)),
+    wrong("clears others' links", STORES, |taken| if_refused(taken, clear_links)),
+    wrong("l.swa clears others' links", &[Swa], |taken| if_refused(taken, clear_links)),
+    wrong("empties the word's entry", STORES, |taken| {
+        if_refused(taken, |taken| make_entry(taken, |_| 0))
+    }),
+    wrong("fills the word's entry", STORES, |taken| {
+        if_refused(taken, |taken| make_entry(taken, |form| form))
+    }),
+    wrong("goes on and writes nothing", STORES, |taken| {
+        if_refused(taken, |taken| {
+            (taken.after, taken.raised) = (taken.before, false);
+            exec::advance(&mut taken.after);
+        })
+    }),
+    wrong("does not count it as raised", STORES, |taken| {
+        if_refused(taken, |taken| taken.raised = false)
+    }),
+];
+
+/// F, also where ESR keeps it.
+fn put_flag(core: &mut Core, flag: bool) {
+    core.put(F, flag);
+    core.esr = core.esr & !F | core.sr & F;
+}
+
+const WRONG_CORES: [WrongStep; 16] = [
+    wrong("l.swa clears F", &[Swa], |taken| {
+        core_if_refused(taken, |core, _, _| put_flag(core, false))
+    }),
+    wrong("l.swa sets F", &[Swa], |taken| {
+        core_if_refused(taken, |core, _, _| put_flag(core, true))
+    }),
+    wrong("l.swa tells its link in F", &[Swa], |taken| {
+        core_if_refused(taken, |core, before, at| {
+            put_flag(core, before.link && before.link_address == at)
+        })
+    }),
+    wrong("EEAR is kept", STORES, |taken| {
+        core_if_refused(taken, |core, before, _| core.eear = before.eear)
+    }),
+    wrong("EEAR is PC", STORES, |taken| {
+        core_if_refused(taken, |core, before, _| core.eear = before.pc)
+    }),
+    wrong("EEAR is the word's address", STORES, |taken| {
+        core_if_refused(taken, |core, _, at| core.eear = at & !3)
+    }),
+    wrong("EEAR is the limit", STORES, |taken| {
+        if_refused(taken, |taken| taken.after.eear = taken.limit)
+    }),
+    wrong("the own link is kept", STORES, |taken| {
+        core_if_refused(taken, |core, before, _| {
+            (core.link, core.link_address) = (before.link, before.link_address);
+        })
+    }),
+    wrong("l.swa alone clears the own link", &[Sw, Sb, Sh], |taken| {
+        core_if_refused(taken, |core, before, _| {
+            (core.link, core.link_address) = (before.link, before.link_address);
+        })
+    }),
+    wrong("the own link to another word is kept", STORES, |taken| {
+        core_if_refused(taken, |core, before, at| {
+            if before.link_address != at & !3 {
+                (core.link, core.link_address) = (before.link, before.link_address);
+            }
+        })
+    }),
+    wrong("EPCR is its own address in a slot", STORES, |taken| {
+        core_if_refused(taken, |core, before, _| core.epcr = before.pc)
+    }),
+    wrong("EPCR is the next address", STORES, |taken| {
+        core_if_refused(taken, |core, before, _| core.epcr = before.pc.wrapping_add(4))
+    }),
+    wrong("DSX is 0 in a slot", STORES, |taken| {
+        core_if_refused(taken, |core, _, _| core.put(DSX, false))
+    }),
+    wrong("DSX is 1 without a slot", STORES, |taken| {
+        core_if_refused(taken, |core, _, _| core.put(DSX, true))
+    }),
+    wrong("the vector is 300", STORES, |taken| {
+        core_if_refused(taken, |core, _, _| core.pc = 0x300)
+    }),
+    wrong("the core halts", STORES, |taken| {
+        core_if_refused(taken, |core, _, _| core.running = false)
+    }),
+];
+
+#[test]
+fn wrong_tests_of_the_limit_are_stopped() {
+    WRONG_TESTS.iter().for_each(|engine| assert_stopped(engine));
+}
+
+#[test]
+fn wrong_refusals_of_accesses_are_stopped() {
+    WRONG_REFUSALS.iter().for_each(|engine| assert_stopped(engine));
+}
+
+#[test]
+fn wrong_effects_are_stopped() {
+    WRONG_EFFECTS.iter().for_each(|engine| assert_stopped(engine));
+}
+
+#[test]
+fn wrong_cores_are_stopped() {
+    WRONG_CORES.iter().for_each(|engine| assert_stopped(engine));
+}
+
+/// What these engines do is right where they spoil nothing.
+#[test]
+fn a_right_engine_passes() {
+    assert_passed(&held_to("holds to the limit", STORES, |it| it.limit));
+    assert_passed(&wrong("refuses again", STORES, |taken| {
+        if_refused(taken, |taken| taken.fail(taken.address()))
+    }));
+}
+
+/// Whether the limit alone would be turned back.
+fn limit_is_wrong(lent: &Lent) -> bool {
+    !lent.limit.is_multiple_of(4) || lent.limit as usize > lent.bytes
+}
+
+/// Refuses by 12 where another number is due and the limit is wrong too.
+fn before(lent: &Lent, due: u8) -> Turn {
+    if lent.due == due && limit_is_wrong(lent) {
+        Turn::Refuse(12)
+    } else {
+        Turn::Right
+    }
+}
+
+/// Refuses by another number where 12 is due and that one would be after it.
+fn after(lent: &Lent, other: u8) -> Turn {
+    if lent.due == 12 && lent.with_limit == other {
+        Turn::Refuse(other)
+    } else {
+        Turn::Right
+    }
+}
+
+/// Runs with another limit where 12 is due and `takes` holds.
+fn taking(lent: &Lent, takes: bool, limit: u32) -> Turn {
+    if lent.due == 12 && takes {
+        Turn::HeldTo(limit)
+    } else {
+        Turn::Right
+    }
+}
+
+/// Refuses a good limit by 12.
+fn refusing(lent: &Lent, refuses: bool) -> Turn {
+    if lent.due == 0 && refuses {
+        Turn::Refuse(12)
+    } else {
+        Turn::Right
+    }
+}
+
+const fn turning(name: &'static str, turn: fn(&Lent) -> Turn) -> WrongRefusal {
+    WrongRefusal { name, turn }
+}
+
+const WRONG_NUMBERS: [WrongRefusal; 21] = [
+    turning("has 12 before 11", |lent| before(lent, 11)),
+    turning("has 12 before 5", |lent| before(lent, 5)),
+    turning("has 12 before 3", |lent| before(lent, 3)),
+    turning("has 12 after 6", |lent| after(lent, 6)),
+    turning("has 12 after 7", |lent| after(lent, 7)),
+    turning("says 11 for 12", |lent| match lent.due {
+        12 => Turn::Refuse(11),
+        _ => Turn::Right,
+    }),
+    turning("says 1 for a limit past memory", |lent| match lent.due {
+        12 if lent.limit as usize > lent.bytes => Turn::Refuse(1),
+        _ => Turn::Right,
+    }),
+    turning("runs before it refuses", |lent| match lent.due {
+        12 => Turn::RunAndRefuse(12),
+        _ => Turn::Right,
+    }),
+    turning("refuses memory's length", |lent| refusing(lent, lent.limit as usize == lent.bytes)),
+    turning("refuses 0", |lent| refusing(lent, lent.limit == 0)),
+    turning("asks for a multiple of 8", |lent| refusing(lent, !lent.limit.is_multiple_of(8))),
+    turning("takes 2 and the like", |lent| {
+        taking(lent, lent.limit as usize <= lent.bytes && lent.limit % 4 == 2, lent.limit & !3)
+    }),
+    turning("takes odd limits, cut down", |lent| {
+        taking(lent, lent.limit as usize <= lent.bytes, lent.limit & !3)
+    }),
+    turning("takes odd limits, rounded up", |lent| {
+        taking(lent, lent.limit as usize <= lent.bytes, (lent.limit | 3).wrapping_add(1))
+    }),
+    turning("takes one word past memory", |lent| {
+        taking(lent, lent.limit as usize == lent.bytes + 4, lent.bytes as u32)
+    }),
+    turning("takes any multiple of 4", |lent| {
+        taking(lent, lent.limit.is_multiple_of(4), lent.bytes as u32)
+    }),
+    turning("takes a limit past memory for none", |lent| {
+        taking(lent, lent.limit as usize > lent.bytes, 0)
+    }),
+    turning("reads the limit as signed", |lent| taking(lent, lent.limit >> 31 == 1, 0)),
+    turning("tests the limit in the fast run alone", |lent| taking(lent, !lent.fast, 0)),
+    turning("tests the limit in the plain run alone", |lent| taking(lent, lent.fast, 0)),
+    turning("does not test the limit of an empty schedule", |lent| {
+        taking(lent, lent.entries == 0, 0)
+    }),
+];
+
+#[test]
+fn wrong_refusals_of_limits_are_stopped() {
+    wrong_refusal::assert_stopped(&WRONG_NUMBERS);
+}
