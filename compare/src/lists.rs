@@ -289,19 +289,11 @@ fn put_form_fault(rng: &mut Rng, lines: &mut [String], line: usize) {
     let value = lines[line].split_once('=').map_or("", |(_, value)| value).to_string();
     let values =
         ["200", "0000200", "000000200", "0000020A", "000FFFFC", "0x000200", "0000020g", "-0000200"];
-    lines[line] = match rng.below(12) {
-        0 => String::new(),
-        1 => format!("{key}s={value}"),
-        2 => format!(" {key}={value}"),
-        3 => format!("{key}={value} "),
-        4 => format!("{key}={value}\r"),
-        5 => format!("{key}{value}"),
-        6 => format!("{key}="),
-        7 => format!("{}={value}", key.to_uppercase()),
-        8 => format!("{key}=={value}"),
+    let choice = rng.below(12);
+    lines[line] = cards::spoiled(choice, key, &value).unwrap_or_else(|| match choice {
         9 => value,
         _ => format!("{key}={}", rng.pick(&values)),
-    };
+    });
 }
 
 /// A good file with a few bytes changed, dropped or added; it may be good.
