@@ -24,6 +24,7 @@ static uint8_t memory[MEMORY_BYTES];
 static uint32_t state[OR1K_STATE_WORDS];
 static uint8_t schedule[STEPS];
 static uint32_t levels[STEPS];
+static const uint32_t vectors[] = OR1K_DEFAULT_VECTORS;
 static uint64_t cache[MEMORY_BYTES / 4];
 
 static void put(size_t address, const uint32_t *words, size_t n)
@@ -41,7 +42,8 @@ static void run(const char *what)
     put(VECTOR, handler, sizeof handler / sizeof handler[0]);
     or1k_reset(state, 0);
     memset(cache, 0, sizeof cache);
-    uint64_t answer = or1k_fast_run(memory, MEMORY_BYTES, state, OR1K_STATE_WORDS, schedule, STEPS, levels, STEPS, OR1K_NO_LIMIT, cache, MEMORY_BYTES / 4);
+    uint64_t answer = or1k_fast_run(memory, MEMORY_BYTES, state, OR1K_STATE_WORDS, schedule, STEPS, levels, STEPS, OR1K_NO_LIMIT,
+                                    vectors, OR1K_VECTORS, cache, MEMORY_BYTES / 4);
     printf("%s: refused=%" PRIu32 " raised=%" PRIu32, what, or1k_refusal(answer), or1k_raised(answer));
     printf(" handled=%" PRIu32 " loops=%" PRIu32 " epcr=%08" PRIx32 "\n", state[20], state[4], state[OR1K_EPCR]);
 }

@@ -29,6 +29,7 @@ static uint8_t memory[MEMORY_BYTES];
 static uint32_t state[OR1K_STATE_WORDS];
 static uint8_t schedule[STEPS];
 static uint32_t levels[STEPS];
+static const uint32_t vectors[] = OR1K_DEFAULT_VECTORS;
 static uint64_t cache[MEMORY_BYTES / 4];
 
 static void put(size_t address, const uint32_t *words, size_t n)
@@ -47,7 +48,8 @@ static void run(uint32_t limit)
     or1k_reset(state, 0);
     memset(cache, 0, sizeof cache);
     uint64_t answer =
-        or1k_fast_run(memory, MEMORY_BYTES, state, OR1K_STATE_WORDS, schedule, STEPS, levels, STEPS, limit, cache, MEMORY_BYTES / 4);
+        or1k_fast_run(memory, MEMORY_BYTES, state, OR1K_STATE_WORDS, schedule, STEPS, levels, STEPS, limit, vectors, OR1K_VECTORS, cache,
+                      MEMORY_BYTES / 4);
     printf("limit %" PRIu32 ": refused=%" PRIu32, limit, or1k_refusal(answer));
     printf(" raised=%" PRIu32 " mode=%" PRIu32 " eear=%" PRIu32 "\n", or1k_raised(answer), state[OR1K_MODE], state[OR1K_EEAR]);
 }

@@ -13,15 +13,17 @@ static uint8_t schedule[OR1K_MAX_SCHEDULE + 1];
 static uint32_t levels[OR1K_MAX_SCHEDULE + 1];
 static uint64_t cache[OR1K_MAX_MEMORY / 4 + 1];
 static uint32_t limit = OR1K_NO_LIMIT;
+static uint32_t vectors[OR1K_VECTORS + 1] = OR1K_DEFAULT_VECTORS;
+static size_t vectors_length = OR1K_VECTORS;
 
-/* Prints the refusal of a run from reset with these lengths and the limit, and whether it is the one that is due. */
+/* Prints the refusal of a run from reset with these lengths, the limit and the vectors, and whether it is the one that is due. */
 static void try_levels(const char *what, uint32_t due, size_t memory_length, size_t cores, size_t schedule_length, size_t levels_length, size_t cache_length)
 {
     for (size_t core = 0; core < cores; core++)
         or1k_reset(states + core * OR1K_STATE_WORDS, 0);
     uint32_t refusal = or1k_refusal(
-        or1k_fast_run(memory, memory_length, states, cores * OR1K_STATE_WORDS, schedule, schedule_length, levels, levels_length, limit, cache,
-                      cache_length));
+        or1k_fast_run(memory, memory_length, states, cores * OR1K_STATE_WORDS, schedule, schedule_length, levels, levels_length, limit, vectors,
+                      vectors_length, cache, cache_length));
     printf("%s: %" PRIu32 "%s\n", what, refusal, refusal == due ? "" : " IS WRONG");
 }
 
@@ -31,9 +33,18 @@ static void try_lengths(const char *what, uint32_t due, size_t memory_length, si
     try_levels(what, due, memory_length, cores, schedule_length, schedule_length, cache_length);
 }
 
+/* The same with another address at one place of the list. */
+static void try_vector(const char *what, uint32_t due, size_t place, uint32_t address)
+{
+    const uint32_t old = vectors[place];
+    vectors[place] = address;
+    try_lengths(what, due, OR1K_MIN_MEMORY, 1, 0, OR1K_MIN_MEMORY / 4);
+    vectors[place] = old;
+}
+
 static uint32_t refusal_of_states(size_t length)
 {
-    return or1k_refusal(or1k_plain_run(memory, OR1K_MIN_MEMORY, states, length, schedule, 0, levels, 0, OR1K_NO_LIMIT));
+    return or1k_refusal(or1k_plain_run(memory, OR1K_MIN_MEMORY, states, length, schedule, 0, levels, 0, OR1K_NO_LIMIT, vectors, OR1K_VECTORS));
 }
 
 int main(void)
@@ -67,7 +78,19 @@ int main(void)
     try_lengths("a limit of 2", OR1K_REFUSED_LIMIT, least, 2, 1, least / 4);
     try_levels("the same, and a level too many", OR1K_REFUSED_LEVELS_LENGTH, least, 2, 1, 2, least / 4);
     try_lengths("the same, and a short cache", OR1K_REFUSED_LIMIT, least, 2, 1, least / 4 - 1);
+    vectors_length = 6;
+    try_lengths("the same, and six vectors", OR1K_REFUSED_LIMIT, least, 2, 1, least / 4);
     limit = OR1K_NO_LIMIT;
+    try_lengths("six vectors", OR1K_REFUSED_VECTORS, least, 2, 1, least / 4);
+    try_lengths("the same, and a short cache", OR1K_REFUSED_VECTORS, least, 2, 1, least / 4 - 1);
+    vectors_length = 8;
+    try_lengths("eight vectors", OR1K_REFUSED_VECTORS, least, 2, 1, least / 4);
+    vectors_length = OR1K_VECTORS;
+    try_vector("a vector at 0", OR1K_ACCEPTED, OR1K_VECTOR_BUS, 0);
+    try_vector("a vector at 1048572", OR1K_ACCEPTED, OR1K_VECTOR_INTERRUPT, OR1K_VECTOR_END - 4);
+    try_vector("a vector at 1048576", OR1K_REFUSED_VECTORS, OR1K_VECTOR_INTERRUPT, OR1K_VECTOR_END);
+    try_vector("a vector at 2", OR1K_REFUSED_VECTORS, OR1K_VECTOR_ILLEGAL, 2);
+    try_vector("two equal vectors", OR1K_REFUSED_VECTORS, OR1K_VECTOR_TRAP, vectors[OR1K_VECTOR_BUS]);
     try_lengths("a short cache", OR1K_REFUSED_CACHE_LENGTH, least, 1, 0, least / 4 - 1);
     cache[1] = or1k_decode(0x15000000);
     try_lengths("another word's entry", OR1K_REFUSED_CACHE_ENTRY, least, 1, 0, least / 4);
@@ -98,5 +121,7 @@ int main(void)
     or1k_reset(states, 0);
     states[OR1K_MODE] = OR1K_HALTED;
     printf("halted: %" PRIu32 "\n", refusal_of_states(OR1K_STATE_WORDS));
+    vectors[OR1K_VECTOR_BUS] = vectors[OR1K_VECTOR_ALIGNMENT];
+    printf("two equal vectors, plain run: %" PRIu32 "\n", refusal_of_states(OR1K_STATE_WORDS));
     return 0;
 }

@@ -13,6 +13,7 @@ static uint8_t memory[MEMORY_BYTES];
 static uint32_t states[CORES * OR1K_STATE_WORDS];
 static uint8_t schedule[STEPS];
 static uint32_t levels[STEPS]; /* all interrupt lines low */
+static const uint32_t vectors[] = OR1K_DEFAULT_VECTORS;
 static uint64_t cache[MEMORY_BYTES / 4];
 
 /* The program in memory, core 0 as after reset with entry 0, an empty cache. */
@@ -45,12 +46,14 @@ static void print(const char *run, uint64_t answer)
 
 static uint64_t plain_run(void)
 {
-    return or1k_plain_run(memory, MEMORY_BYTES, states, CORES * OR1K_STATE_WORDS, schedule, STEPS, levels, STEPS, OR1K_NO_LIMIT);
+    return or1k_plain_run(memory, MEMORY_BYTES, states, CORES * OR1K_STATE_WORDS, schedule, STEPS, levels, STEPS, OR1K_NO_LIMIT, vectors,
+                          OR1K_VECTORS);
 }
 
 static uint64_t fast_run(void)
 {
-    return or1k_fast_run(memory, MEMORY_BYTES, states, CORES * OR1K_STATE_WORDS, schedule, STEPS, levels, STEPS, OR1K_NO_LIMIT, cache, MEMORY_BYTES / 4);
+    return or1k_fast_run(memory, MEMORY_BYTES, states, CORES * OR1K_STATE_WORDS, schedule, STEPS, levels, STEPS, OR1K_NO_LIMIT, vectors,
+                         OR1K_VECTORS, cache, MEMORY_BYTES / 4);
 }
 
 int main(void)

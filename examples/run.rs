@@ -14,6 +14,7 @@ mod or1k {
     const PICMR_RESET: u32 = 3;
     const RUNNING: u32 = 3;
     const NO_LIMIT: u32 = 0;
+    const DEFAULT_VECTORS: [u32; 7] = [0x200, 0x600, 0x700, 0xb00, 0xc00, 0xe00, 0x800];
 
     // As include/or1k.h declares them.
     extern "C" {
@@ -27,6 +28,8 @@ mod or1k {
             levels: *const u32,
             levels_length: usize,
             limit: u32,
+            vectors: *const u32,
+            vectors_length: usize,
         ) -> u64;
         fn or1k_fast_run(
             memory: *mut u8,
@@ -38,6 +41,8 @@ mod or1k {
             levels: *const u32,
             levels_length: usize,
             limit: u32,
+            vectors: *const u32,
+            vectors_length: usize,
             cache: *mut u64,
             cache_length: usize,
         ) -> u64;
@@ -56,6 +61,8 @@ mod or1k {
                 levels.as_ptr(),
                 levels.len(),
                 NO_LIMIT,
+                DEFAULT_VECTORS.as_ptr(),
+                DEFAULT_VECTORS.len(),
             )
         }
     }
@@ -73,6 +80,8 @@ mod or1k {
                 levels.as_ptr(),
                 levels.len(),
                 NO_LIMIT,
+                DEFAULT_VECTORS.as_ptr(),
+                DEFAULT_VECTORS.len(),
                 cache.as_mut_ptr(),
                 cache.len(),
             )

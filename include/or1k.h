@@ -1,4 +1,4 @@
-/* The engine's functions for C and C++; README.md has their declarations for Rust. Link with the archive that `rt staticlib host` writes.
+/* The engine's functions for C and C++; examples/run.rs declares the runs for Rust. Link with the archive that `rt staticlib host` writes.
  * Where a comment puts a word in brackets, documents 01 and 02 have that word for the thing. */
 #ifndef OR1K_H
 #define OR1K_H
@@ -29,7 +29,8 @@ enum {
     OR1K_MAX_CORES = 4,
     OR1K_MIN_MEMORY = 4096,    /* bytes */
     OR1K_MAX_MEMORY = 1048576, /* bytes */
-    OR1K_MAX_SCHEDULE = 65536  /* entries */
+    OR1K_MAX_SCHEDULE = 65536, /* entries */
+    OR1K_VECTOR_END = 1048576  /* vectors are addresses below this one */
 };
 
 /* A core's state [sheet]: its registers r0 to r31, then these words. */
@@ -81,6 +82,21 @@ enum {
     OR1K_NO_LIMIT = 0
 };
 
+/* The causes of exceptions, as places in a list of vectors: where a core goes on after each. */
+enum {
+    OR1K_VECTOR_BUS,       /* a fetch or an access outside memory, or a store or l.swa below the limit */
+    OR1K_VECTOR_ALIGNMENT, /* an address that is no multiple of its access's width, or of 4 in l.jr and l.jalr */
+    OR1K_VECTOR_ILLEGAL,   /* no instruction; a jump, branch, l.rfe or l.sys in a delay slot */
+    OR1K_VECTOR_RANGE,     /* see OR1K_SR_OVE */
+    OR1K_VECTOR_SYSCALL,   /* l.sys */
+    OR1K_VECTOR_TRAP,      /* l.trap */
+    OR1K_VECTOR_INTERRUPT, /* a line is latched */
+    OR1K_VECTORS /* how many a list has: 7 */
+};
+
+/* The list that documents 01 and 02 have by default [old list]: `const uint32_t vectors[OR1K_VECTORS] = OR1K_DEFAULT_VECTORS;` */
+#define OR1K_DEFAULT_VECTORS {0x200, 0x600, 0x700, 0xb00, 0xc00, 0xe00, 0x800}
+
 /* Resets one core's state, OR1K_STATE_WORDS words: it runs from the entry, a multiple of 4. */
 static inline void or1k_reset(uint32_t *state, uint32_t entry)
 {
@@ -101,6 +117,8 @@ static inline void or1k_reset(uint32_t *state, uint32_t entry)
  *   states    OR1K_STATE_WORDS words for each of 1 to OR1K_MAX_CORES cores
  *   schedule  up to OR1K_MAX_SCHEDULE bytes, each the number, from 0, of the core that runs one instruction or takes an interrupt; it is only read
  *   levels    for each entry of the schedule, the levels of 32 interrupt lines, line 0 in the lowest bit; 0 if all are low; it is only read
+ *   vectors   the addresses to which exceptions go, in the order of the causes above: OR1K_VECTORS multiples of 4 below OR1K_VECTOR_END, no two of them
+ *             equal; they may lie outside memory, where a fetch is a bus error; it is only read
  *   cache     for the fast run: the entry of each word of memory, or 0 where it is empty [table]
  * and a number:
  *   limit     how many bytes at memory's start are read-only, a multiple of 4 up to memory's length, or OR1K_NO_LIMIT
@@ -119,7 +137,7 @@ static inline void or1k_reset(uint32_t *state, uint32_t entry)
  * the words that were written to 0; an entry that is no longer its word's is refused.
  */
 
-/* Why a run was refused: the first of 1, 2, 3, 4, 5, 11, 12, 6, 7 that is so (in the plain run without 6 and 7). */
+/* Why a run was refused: the first of 1, 2, 3, 4, 5, 11, 12, 13, 6, 7 that is so (in the plain run without 6 and 7). */
 enum {
     OR1K_ACCEPTED = 0,
     OR1K_REFUSED_MEMORY_LENGTH = 1,   /* memory is too short, too long or no multiple of 4 */
@@ -133,23 +151,24 @@ enum {
     OR1K_REFUSED_CACHE_ENTRY = 7,     /* an entry that is not 0 is not what its word decodes to */
     OR1K_REFUSED_NO_WORD = 8,         /* the encoder only: no word decodes to the entry */
     OR1K_REFUSED_LEVELS_LENGTH = 11,  /* the levels are not one for each entry of the schedule */
-    OR1K_REFUSED_LIMIT = 12           /* the limit is no multiple of 4 or greater than memory's length */
+    OR1K_REFUSED_LIMIT = 12,          /* the limit is no multiple of 4 or greater than memory's length */
+    OR1K_REFUSED_VECTORS = 13         /* the vectors are not OR1K_VECTORS, or one is no multiple of 4, not below OR1K_VECTOR_END or equal to another */
 };
 
 /* Runs the schedule's entries in order and decodes each word afresh. The answer is read by the four functions below.
  * On a running core's entry PICSR first gains the lines that are high and have their bit in PICMR. If it is then not 0, SR has IEE and no delay slot
- * is pending, the core takes an exception to 800 (hexadecimal) in place of an instruction, which counts as executed and raised: EPCR is PC, EEAR and
+ * is pending, the core takes an exception (OR1K_VECTOR_INTERRUPT) in place of an instruction, which counts as executed and raised: EPCR is PC, EEAR and
  * PICSR stay, and ESR, SR and the link are as after any exception.
- * An aligned store or l.swa below the limit, linked or not, raises a bus error to 200 (hexadecimal) with its address in EEAR, writes no memory and clears no
+ * An aligned store or l.swa below the limit, linked or not, raises a bus error (OR1K_VECTOR_BUS) with its address in EEAR, writes no memory and clears no
  * other core's link. Loads, l.lwa, p.* and fetches are free there. */
 uint64_t or1k_plain_run(uint8_t *memory, size_t memory_length, uint32_t *states, size_t states_length,
                         const uint8_t *schedule, size_t schedule_length, const uint32_t *levels, size_t levels_length,
-                        uint32_t limit);
+                        uint32_t limit, const uint32_t *vectors, size_t vectors_length);
 
 /* The same run by the decode cache: memory, states, executed and raised are the plain run's. */
 uint64_t or1k_fast_run(uint8_t *memory, size_t memory_length, uint32_t *states, size_t states_length,
                        const uint8_t *schedule, size_t schedule_length, const uint32_t *levels, size_t levels_length,
-                       uint32_t limit, uint64_t *cache, size_t cache_length);
+                       uint32_t limit, const uint32_t *vectors, size_t vectors_length, uint64_t *cache, size_t cache_length);
 
 /* The four parts of a run's answer. */
 

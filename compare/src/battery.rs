@@ -2,11 +2,12 @@
 //! engine behind `Engine` is asked the same ones. A message names the seed
 //! and holds the whole case.
 
-use crate::card;
+use crate::card::{self, File};
 use crate::cards;
 use crate::cases;
 use crate::check::{self, Codec, Engine};
 use crate::dump;
+use crate::lists;
 use crate::programs;
 use crate::rng::Rng;
 use std::ops::Range;
@@ -108,33 +109,43 @@ impl Pair<'_> {
         Err(format!("refused by {found}, not {refusal}\n{}", dump::write_case(case)))
     }
 
-    /// Runs good cards, one a seed, as read here.
+    /// Runs good cards, one a seed, as read here, half of them with a file of vectors.
     pub fn good_cards(&self, seeds: Range<u64>) -> Verdict {
         for seed in seeds {
-            let card = cards::good_card(&mut Rng::new(seed));
-            of_seed(seed, check::same_card(self.one, self.other, &card))?;
+            let (card, mut far_aside) =
+                (cards::good_card(&mut Rng::new(seed)), Rng::new(seed).far_aside());
+            let file = lists::good_or_absent(&mut far_aside);
+            of_seed(seed, check::same_card(self.one, self.other, &file, &card))?;
         }
         Ok(())
     }
 }
 
-/// Holds a runner's whole output for good, faulty and damaged cards, one a
-/// seed, against this engine's.
-pub fn printed_cards(seeds: Range<u64>, runner: &mut dyn FnMut(&[u8]) -> String) -> Verdict {
+/// A runner's whole output for a file of vectors and a card.
+pub type Runner<'a> = &'a mut dyn FnMut(&File, &[u8]) -> String;
+
+/// Holds a runner's whole output for good, faulty and damaged cards, one a seed,
+/// against this engine's; two thirds of them have such a file of vectors beside them.
+pub fn printed_cards(seeds: Range<u64>, runner: Runner) -> Verdict {
     for seed in seeds {
         let mut rng = Rng::new(seed);
+        let file = lists::any_file(&mut rng.far_aside());
         let card = match rng.below(3) {
             0 => cards::good_card(&mut rng),
             1 => cards::faulty_card(&mut rng).0,
             _ => cards::damaged_card(&mut rng),
         };
-        let (expected, printed) = (card::output(&card), runner(&card));
-        if printed != expected {
-            let text = String::from_utf8_lossy(&card);
-            return Err(format!(
-                "seed {seed}: printed\n{printed}not\n{expected}for the card\n{text}"
-            ));
-        }
+        of_seed(seed, same_print(runner, &file, &card))?;
     }
     Ok(())
+}
+
+/// Holds a runner's whole output for a file and a card against this engine's.
+pub fn same_print(runner: Runner, file: &File, card: &[u8]) -> Verdict {
+    let (expected, printed) = (card::output(file, card), runner(file, card));
+    if printed == expected {
+        return Ok(());
+    }
+    let (shown, text) = (check::shown(file), String::from_utf8_lossy(card));
+    Err(format!("printed\n{printed}not\n{expected}for {shown}the card\n{text}"))
 }

@@ -1,7 +1,8 @@
 //! The run card: reading one, and the whole output of running it.
 
-use crate::runs::{self, Answer};
+use crate::runs::{self, Answer, Lent};
 use crate::state::{place, Core, SHEET_WORDS};
+use crate::vectors::Vectors;
 use std::fmt::Write;
 
 /// Bytes of the lent image.
@@ -30,13 +31,22 @@ pub struct Fault {
 const ILL_FORMED: u8 = 9;
 const OUTSIDE: u8 = 10;
 
-/// A card's lines in turn, counted from 1.
-struct Lines<'a> {
+/// The lines of a card, or of another file under its rules, in turn, counted from 1.
+pub(crate) struct Lines<'a> {
     rest: &'a [u8],
     line: usize,
 }
 
 impl<'a> Lines<'a> {
+    /// "over 65,536 bytes (line 0)"
+    pub(crate) fn of(bytes: &'a [u8]) -> Result<Lines<'a>, Fault> {
+        let lines = Lines { rest: bytes, line: 0 };
+        if bytes.len() > CARD_MOST {
+            return Err(lines.fault(ILL_FORMED));
+        }
+        Ok(lines)
+    }
+
     fn fault(&self, refusal: u8) -> Fault {
         Fault { refusal, line: self.line }
     }
@@ -64,14 +74,15 @@ impl<'a> Lines<'a> {
         }
     }
 
-    fn hexadecimal(&mut self, key: &str) -> Result<u32, Fault> {
-        read_hexadecimal(self.value(key)?).ok_or(self.fault(ILL_FORMED))
-    }
-
-    fn entry(&mut self) -> Result<u32, Fault> {
-        let entry = self.hexadecimal("entry")?;
-        if entry % 4 == 0 {
-            Ok(entry)
+    /// A hexadecimal number that `limits` holds of.
+    pub(crate) fn hexadecimal(
+        &mut self,
+        key: &str,
+        limits: impl Fn(u32) -> bool,
+    ) -> Result<u32, Fault> {
+        let value = read_hexadecimal(self.value(key)?).ok_or(self.fault(ILL_FORMED))?;
+        if limits(value) {
+            Ok(value)
         } else {
             Err(self.fault(OUTSIDE))
         }
@@ -93,7 +104,7 @@ impl<'a> Lines<'a> {
     }
 
     /// A line left over is a form fault at the number after the last.
-    fn finish(&mut self) -> Result<(), Fault> {
+    pub(crate) fn finish(&mut self) -> Result<(), Fault> {
         self.line += 1;
         if self.rest.is_empty() {
             Ok(())
@@ -134,19 +145,18 @@ pub fn parse(card: &[u8], image: &mut [u8]) -> Result<Job, Fault> {
     if image.len() != IMAGE_BYTES {
         return Err(Fault { refusal: 1, line: 0 });
     }
-    if card.len() > CARD_MOST {
-        return Err(Fault { refusal: ILL_FORMED, line: 0 });
-    }
-    let mut lines = Lines { rest: card, line: 0 };
+    let mut lines = Lines::of(card)?;
     let cores = lines.decimal("cores", |cores| (1..=4).contains(&cores))?;
     let in_memory = |bytes: usize| (4_096..=16_384).contains(&bytes) && bytes.is_multiple_of(4);
     let memory = lines.decimal("memory", in_memory)?;
-    let entry = lines.entry()?;
+    let entry = lines.hexadecimal("entry", |entry| entry.is_multiple_of(4))?;
     let steps = lines.decimal("steps", |steps| steps <= 16_384)?;
     let digits = lines.schedule(cores)?;
     let count = lines.decimal("words", |words| words <= memory / 4)?;
-    let words: Result<Vec<u32>, Fault> = (0..count).map(|_| lines.hexadecimal("w")).collect();
-    let words = words?;
+    let mut words = Vec::with_capacity(count);
+    for _ in 0..count {
+        words.push(lines.hexadecimal("w", |_| true)?);
+    }
     lines.finish()?;
     fill(&mut image[..memory], &words);
     let schedule = digits.into_iter().cycle().take(steps).collect();
@@ -169,33 +179,64 @@ pub fn reset_sheets(cores: usize, entry: u32) -> Vec<u32> {
     sheets
 }
 
-/// A fast run, of this engine or another: memory, sheets, schedule, levels, limit
-/// and table in, the packed answer out.
-pub type FastRun<'a> =
-    &'a mut dyn FnMut(&mut [u8], &mut [u32], &[u8], &[u32], u32, &mut [u64]) -> u64;
+/// A fast run, of this engine or another: the packed answer comes out.
+pub type FastRun<'a> = &'a mut dyn FnMut(&mut Lent) -> u64;
 
-/// The whole output of the runner for a card, by this engine's fast run.
-pub fn output(card: &[u8]) -> String {
-    output_with(card, &mut |memory, sheets, schedule, levels, limit, table| {
-        runs::fast_run(memory, sheets, schedule, levels, limit, table).pack()
-    })
+/// What is found under the name of the file of vectors.
+#[derive(Clone, Debug, PartialEq, Eq)]
+pub enum File {
+    Absent,
+    /// It is there but cannot be read.
+    Unreadable,
+    Bytes(Vec<u8>),
 }
 
-/// The whole output of the runner for a card, by a given fast run. 02, notes 4 and
-/// 5: "the card runner gives all lines low" and "uses 0" as its limit.
-pub fn output_with(card: &[u8], fast_run: FastRun) -> String {
-    let mut image = vec![0; IMAGE_BYTES];
-    match parse(card, &mut image) {
-        Err(fault) => format!("refused={} line={}\n", fault.refusal, fault.line),
-        Ok(job) => {
-            let mut sheets = reset_sheets(job.cores, job.entry);
-            let mut table = vec![0; job.memory / 4];
-            let memory = &mut image[..job.memory];
-            let levels = vec![0; job.schedule.len()];
-            let packed = fast_run(memory, &mut sheets, &job.schedule, &levels, 0, &mut table);
-            listing(Answer::unpack(packed), &sheets)
+impl File {
+    /// The list that a run is made with.
+    pub fn vectors(&self) -> Result<Vectors, Fault> {
+        match self {
+            File::Absent => Ok(Vectors::OLD),
+            File::Unreadable => Err(Fault { refusal: ILL_FORMED, line: 0 }),
+            File::Bytes(file) => Vectors::of_file(file),
         }
     }
+}
+
+/// The whole output of the runner for a file of vectors and a card, by this engine's
+/// fast run.
+pub fn output(file: &File, card: &[u8]) -> String {
+    output_with(file, card, &mut |lent| runs::fast_run(lent).pack())
+}
+
+/// The same by a given fast run.
+pub fn output_with(file: &File, card: &[u8], fast_run: FastRun) -> String {
+    let printed = file.vectors().and_then(|vectors| run(&vectors, card, fast_run));
+    printed.unwrap_or_else(|fault| fault.to_string())
+}
+
+/// "faults are 9 and 10 and print alike", the file's and the card's.
+impl std::fmt::Display for Fault {
+    fn fmt(&self, text: &mut std::fmt::Formatter) -> std::fmt::Result {
+        writeln!(text, "refused={} line={}", self.refusal, self.line)
+    }
+}
+
+/// The output for a card under a list of vectors. 02, notes 4 and 5: "the card runner
+/// gives all lines low" and "uses 0" as its limit.
+fn run(vectors: &Vectors, card: &[u8], fast_run: FastRun) -> Result<String, Fault> {
+    let mut image = vec![0; IMAGE_BYTES];
+    let job = parse(card, &mut image)?;
+    let mut sheets = reset_sheets(job.cores, job.entry);
+    let packed = fast_run(&mut Lent {
+        memory: &mut image[..job.memory],
+        sheets: &mut sheets,
+        schedule: &job.schedule,
+        levels: &vec![0; job.schedule.len()],
+        limit: 0,
+        vectors: vectors.list(),
+        table: &mut vec![0; job.memory / 4],
+    });
+    Ok(listing(Answer::unpack(packed), &sheets))
 }
 
 /// Counts, then each core's line and its registers, then `end`.

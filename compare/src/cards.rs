@@ -143,11 +143,9 @@ fn key_of(line: usize) -> &'static str {
     ["cores", "memory", "entry", "steps", "schedule", "words", "w"][line.min(6)]
 }
 
-/// Makes one line ill-formed.
-fn put_form_fault(rng: &mut Rng, lines: &mut [String], line: usize) {
-    let key = key_of(line);
-    let value = lines[line].split_once('=').map_or("", |(_, value)| value).to_string();
-    lines[line] = match rng.below(10) {
+/// One of nine ways to spoil a line whatever its value is; no other choice is one.
+pub fn spoiled(choice: usize, key: &str, value: &str) -> Option<String> {
+    Some(match choice {
         0 => String::new(),
         1 => format!("{key}s={value}"),
         2 => format!(" {key}={value}"),
@@ -157,8 +155,16 @@ fn put_form_fault(rng: &mut Rng, lines: &mut [String], line: usize) {
         6 => format!("{key}="),
         7 => format!("{}={value}", key.to_uppercase()),
         8 => format!("{key}=={value}"),
-        _ => format!("{key}={}", ill_formed_value(rng, line)),
-    };
+        _ => return None,
+    })
+}
+
+/// Makes one line ill-formed.
+fn put_form_fault(rng: &mut Rng, lines: &mut [String], line: usize) {
+    let key = key_of(line);
+    let value = lines[line].split_once('=').map_or("", |(_, value)| value).to_string();
+    lines[line] = spoiled(rng.below(10), key, &value)
+        .unwrap_or_else(|| format!("{key}={}", ill_formed_value(rng, line)));
 }
 
 fn ill_formed_value(rng: &mut Rng, line: usize) -> String {

@@ -3,10 +3,12 @@
 use crate::isa::{self, Insn, Kind};
 use crate::levels::levels;
 use crate::limits;
+use crate::lists;
 use crate::programs;
 use crate::rng::Rng;
-use crate::runs::{MEMORY_MOST, SCHEDULE_MOST};
+use crate::runs::{self, Lent, MEMORY_MOST, SCHEDULE_MOST};
 use crate::state::{allowed_sr, place, IEE, OVE, SHEET_WORDS, SR_BITS, SR_RESET, UNMASKABLE};
+use crate::vectors::OLD;
 
 /// Everything that a fast run is lent; a plain run leaves the table aside.
 #[derive(Clone, Debug, PartialEq, Eq, Default)]
@@ -16,27 +18,40 @@ pub struct Case {
     pub schedule: Vec<u8>,
     pub levels: Vec<u32>,
     pub limit: u32,
+    pub vectors: Vec<u32>,
     pub table: Vec<u64>,
 }
 
 impl Case {
     /// A copy of what a run is lent.
-    pub fn of(
-        memory: &[u8],
-        sheets: &[u32],
-        schedule: &[u8],
-        levels: &[u32],
-        limit: u32,
-        table: &[u64],
-    ) -> Case {
+    pub fn of(lent: &Lent) -> Case {
         Case {
-            memory: memory.to_vec(),
-            sheets: sheets.to_vec(),
-            schedule: schedule.to_vec(),
-            levels: levels.to_vec(),
-            limit,
-            table: table.to_vec(),
+            memory: lent.memory.to_vec(),
+            sheets: lent.sheets.to_vec(),
+            schedule: lent.schedule.to_vec(),
+            levels: lent.levels.to_vec(),
+            limit: lent.limit,
+            vectors: lent.vectors.to_vec(),
+            table: lent.table.to_vec(),
         }
+    }
+
+    /// Lends it to a run.
+    pub fn lent(&mut self) -> Lent<'_> {
+        Lent {
+            memory: &mut self.memory,
+            sheets: &mut self.sheets,
+            schedule: &self.schedule,
+            levels: &self.levels,
+            limit: self.limit,
+            vectors: &self.vectors,
+            table: &mut self.table,
+        }
+    }
+
+    /// The refusal that its fast run meets, or 0.
+    pub fn refusal(&self) -> u8 {
+        runs::fast_refusal(&self.clone().lent())
     }
 
     pub fn word(&self, index: usize) -> u32 {
@@ -46,6 +61,17 @@ impl Case {
 
     pub fn set_word(&mut self, index: usize, word: u32) {
         self.memory[4 * index..4 * index + 4].copy_from_slice(&word.to_be_bytes());
+    }
+
+    /// Another word, if it is in memory, and its form in the table, if that has one.
+    pub fn overwrite(&mut self, index: usize, word: u32) {
+        if index >= self.memory.len() / 4 {
+            return;
+        }
+        self.set_word(index, word);
+        if let Some(entry) = self.table.get_mut(index).filter(|entry| **entry != 0) {
+            *entry = isa::decode(word);
+        }
     }
 
     pub fn cores(&self) -> usize {
@@ -73,13 +99,13 @@ impl Case {
 
 /// A case that no refusal is met by, with at most so many entries.
 pub fn accepted_case(rng: &mut Rng, entries_most: usize) -> Case {
-    let mut aside = rng.aside();
+    let (mut aside, mut far_aside) = (rng.aside(), rng.far_aside());
     let bytes = match rng.below(24) {
         0 => 4 * rng.between(1_024, 4_096),
         1 => 4_100,
         _ => 4_096,
     };
-    let mut case = Case { memory: vec![0; bytes], ..Case::default() };
+    let mut case = Case { memory: vec![0; bytes], vectors: OLD.to_vec(), ..Case::default() };
     fill_memory(rng, &mut case);
     let cores = rng.between(1, 4);
     case.sheets = accepted_sheets(rng, cores, bytes as u32);
@@ -89,6 +115,7 @@ pub fn accepted_case(rng: &mut Rng, entries_most: usize) -> Case {
         plant_self_store(rng, &mut case, core);
     }
     limits::throw(&mut aside, &mut case);
+    lists::throw(&mut far_aside, &mut case);
     case.throw_schedule(rng, entries_most);
     case.table = accepted_table(rng, &case);
     case
@@ -116,6 +143,7 @@ pub fn large_case(rng: &mut Rng) -> Case {
     }
     case.sheets[place::PC] = MEMORY_MOST as u32 - 64;
     case.limit = limits::good(&mut rng.aside(), &case);
+    lists::throw(&mut rng.far_aside(), &mut case);
     case
 }
 
@@ -329,9 +357,9 @@ fn accepted_table(rng: &mut Rng, case: &Case) -> Vec<u64> {
 }
 
 /// The refusals of the runs as they are tested: 01's "1 to 7 in this order", 11
-/// "after 5", and 12 "after 11".
-pub const ORDER: [u8; 9] = [1, 2, 3, 4, 5, 11, 12, 6, 7];
-/// Those that `break_by` chooses from: 12 comes from a stream of its own.
+/// "after 5", 12 "after 11" and 13 "after 12".
+pub const ORDER: [u8; 10] = [1, 2, 3, 4, 5, 11, 12, 13, 6, 7];
+/// Those that `break_by` chooses from: 12 and 13 come from streams of their own.
 const DRAWN: [u8; 8] = [1, 2, 3, 4, 5, 11, 6, 7];
 
 /// The one of two refusals that is tested first.
@@ -340,9 +368,24 @@ fn earlier(one: u8, other: u8) -> u8 {
     *ORDER.iter().find(met).expect("a refusal of the runs")
 }
 
-/// A case broken in one to three places and the refusal it must meet.
+/// A case broken in one to four places and the refusal it must meet.
 pub fn broken_case(rng: &mut Rng) -> (Case, u8) {
     let mut case = accepted_case(rng, 40);
+    let mut far_aside = rng.far_aside();
+    if far_aside.one_in(8) {
+        case.vectors = lists::wrong(&mut far_aside, &case.vectors);
+        return (case, 13);
+    }
+    let (mut case, refusal) = break_but_for_the_list(rng, case);
+    if !far_aside.one_in(4) {
+        return (case, refusal);
+    }
+    case.vectors = lists::wrong(&mut far_aside, &case.vectors);
+    (case, earlier(refusal, 13))
+}
+
+/// Breaks a case in one to three places, its vectors not being one of them.
+fn break_but_for_the_list(rng: &mut Rng, mut case: Case) -> (Case, u8) {
     let mut aside = rng.aside();
     if aside.one_in(8) {
         case.limit = limits::wrong(&mut aside, &case);
@@ -356,7 +399,7 @@ pub fn broken_case(rng: &mut Rng) -> (Case, u8) {
     (case, earlier(refusal, 12))
 }
 
-/// Breaks a case in one or two places, its limit not being one of them.
+/// Breaks a case in one or two places, its limit and its vectors not being among them.
 fn break_otherwise(rng: &mut Rng, mut case: Case) -> (Case, u8) {
     let first = break_by(rng, &mut case, 0);
     if rng.one_in(2) {

@@ -4,11 +4,11 @@
 //! to be held against this one on the same generators. `engine::Archive` is
 //! the one under test.
 
-use crate::card;
+use crate::card::{self, File};
 use crate::cases::Case;
 use crate::dump;
 use crate::isa;
-use crate::runs::{self, Answer};
+use crate::runs::{self, Answer, Lent};
 
 /// The two calls on words and entries.
 pub trait Codec {
@@ -19,26 +19,11 @@ pub trait Codec {
 
 /// The two runs beside them, with answers packed as numbers.
 pub trait Engine: Codec {
-    fn plain_run(
-        &self,
-        memory: &mut [u8],
-        sheets: &mut [u32],
-        schedule: &[u8],
-        levels: &[u32],
-        limit: u32,
-    ) -> u64;
-    fn fast_run(
-        &self,
-        memory: &mut [u8],
-        sheets: &mut [u32],
-        schedule: &[u8],
-        levels: &[u32],
-        limit: u32,
-        table: &mut [u64],
-    ) -> u64;
+    fn plain_run(&self, lent: &mut Lent) -> u64;
+    fn fast_run(&self, lent: &mut Lent) -> u64;
 }
 
-type FastRun = fn(&mut [u8], &mut [u32], &[u8], &[u32], u32, &mut [u64]) -> Answer;
+type FastRun = fn(&mut Lent) -> Answer;
 
 /// This engine, with one of its two fast runs.
 pub struct Paper {
@@ -64,26 +49,11 @@ impl Codec for Paper {
 }
 
 impl Engine for Paper {
-    fn plain_run(
-        &self,
-        memory: &mut [u8],
-        sheets: &mut [u32],
-        schedule: &[u8],
-        levels: &[u32],
-        limit: u32,
-    ) -> u64 {
-        runs::plain_run(memory, sheets, schedule, levels, limit).pack()
+    fn plain_run(&self, lent: &mut Lent) -> u64 {
+        runs::plain_run(lent).pack()
     }
-    fn fast_run(
-        &self,
-        memory: &mut [u8],
-        sheets: &mut [u32],
-        schedule: &[u8],
-        levels: &[u32],
-        limit: u32,
-        table: &mut [u64],
-    ) -> u64 {
-        (self.fast_run)(memory, sheets, schedule, levels, limit, table).pack()
+    fn fast_run(&self, lent: &mut Lent) -> u64 {
+        (self.fast_run)(lent).pack()
     }
 }
 
@@ -94,19 +64,17 @@ pub struct Left {
     pub case: Case,
 }
 
-/// Runs a copy of a case by the plain run; the table is not lent.
+/// Runs a copy of a case by the plain run, which leaves the table aside.
 pub fn after_plain(engine: &dyn Engine, case: &Case) -> Left {
     let mut case = case.clone();
-    let Case { memory, sheets, schedule, levels, limit, .. } = &mut case;
-    let packed = engine.plain_run(memory, sheets, schedule, levels, *limit);
+    let packed = engine.plain_run(&mut case.lent());
     Left { answer: Answer::unpack(packed), case }
 }
 
 /// Runs a copy of a case by the fast run.
 pub fn after_fast(engine: &dyn Engine, case: &Case) -> Left {
     let mut case = case.clone();
-    let Case { memory, sheets, schedule, levels, limit, table } = &mut case;
-    let packed = engine.fast_run(memory, sheets, schedule, levels, *limit, table);
+    let packed = engine.fast_run(&mut case.lent());
     Left { answer: Answer::unpack(packed), case }
 }
 
@@ -203,8 +171,7 @@ fn ran_complaint(plain: &Left, fast: &Left) -> Option<String> {
     if let Some(difference) = difference {
         return Some(format!("plain against fast: {difference}"));
     }
-    let Case { memory, sheets, schedule, levels, limit, table } = &fast.case;
-    match runs::fast_refusal(memory, sheets, schedule, levels, *limit, table) {
+    match fast.case.refusal() {
         0 => None,
         refusal => Some(format!("not accepted again: {refusal}")),
     }
@@ -219,6 +186,7 @@ pub fn first_difference(x: &Left, y: &Left) -> Option<String> {
         .or_else(|| differing("sheet word", &x.case.sheets, &y.case.sheets))
         .or_else(|| differing("schedule entry", &x.case.schedule, &y.case.schedule))
         .or_else(|| differing("levels of entry", &x.case.levels, &y.case.levels))
+        .or_else(|| differing("vector", &x.case.vectors, &y.case.vectors))
         .or_else(|| differing("table entry", &x.case.table, &y.case.table))
 }
 
@@ -227,17 +195,32 @@ fn differing<T: PartialEq + std::fmt::LowerHex>(what: &str, x: &[T], y: &[T]) ->
     Some(format!("{what} {index}: {:x} and {:x}", x[index], y[index]))
 }
 
-/// Whether two engines' fast runs print the same for a card, read here.
-pub fn same_card(one: &dyn Engine, other: &dyn Engine, card: &[u8]) -> Result<(), String> {
-    let print = |engine: &dyn Engine| {
-        card::output_with(card, &mut |memory, sheets, schedule, levels, limit, table| {
-            engine.fast_run(memory, sheets, schedule, levels, limit, table)
-        })
-    };
+/// Whether two engines' fast runs print the same for a file and a card, read here.
+pub fn same_card(
+    one: &dyn Engine,
+    other: &dyn Engine,
+    file: &File,
+    card: &[u8],
+) -> Result<(), String> {
+    let print =
+        |engine: &dyn Engine| card::output_with(file, card, &mut |lent| engine.fast_run(lent));
     let (x, y) = (print(one), print(other));
     if x == y {
         return Ok(());
     }
+    let (one, other, shown) = (one.name(), other.name(), shown(file));
     let text = String::from_utf8_lossy(card);
-    Err(format!("{} printed\n{x}{} printed\n{y}for the card\n{text}", one.name(), other.name()))
+    Err(format!("{one} printed\n{x}{other} printed\n{y}for {shown}the card\n{text}"))
+}
+
+/// A file in words.
+pub fn shown(file: &File) -> String {
+    match file {
+        File::Absent => String::new(),
+        File::Unreadable => "an unreadable file and ".to_string(),
+        File::Bytes(bytes) => {
+            let start = String::from_utf8_lossy(&bytes[..bytes.len().min(400)]);
+            format!("the file of {} bytes\n{start}\nand ", bytes.len())
+        }
+    }
 }

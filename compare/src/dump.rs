@@ -1,10 +1,13 @@
 //! Cases as text that can be read back and run again (`replay`).
 
 use crate::cases::Case;
+use crate::vectors::OLD;
 use std::fmt::{Display, Write};
 
 /// Bytes written on one line.
 const CHUNK: usize = 32;
+/// What a number of items and lines of them follow.
+const SECTIONS: [&str; 6] = ["memory", "sheets", "schedule", "levels", "vectors", "table"];
 
 /// A case as text; what is 0 is left out.
 pub fn write_case(case: &Case) -> String {
@@ -14,6 +17,7 @@ pub fn write_case(case: &Case) -> String {
     write_bytes(&mut text, "schedule", &case.schedule);
     write_items(&mut text, "levels", &case.levels);
     text.push_str(&format!("limit {}\n", case.limit));
+    write_items(&mut text, "vectors", &case.vectors);
     write_items(&mut text, "table", &case.table);
     text.push_str("case-end\n");
     text
@@ -45,10 +49,11 @@ fn write_items<T: Display + Into<u64> + Copy>(text: &mut String, name: &str, ite
 }
 
 /// The case in a text; lines before its first are skipped, so that a test's
-/// whole message can be read. Nothing, if there is none or it is damaged.
+/// whole message can be read. A case without vectors has the old list. Nothing, if
+/// there is none or it is damaged.
 pub fn read_case(text: &str) -> Option<Case> {
     let mut lines = text.lines().map(str::trim).skip_while(|line| !line.starts_with("memory "));
-    let mut case = Case::default();
+    let mut case = Case { vectors: OLD.to_vec(), ..Case::default() };
     let mut section = String::new();
     loop {
         let line = lines.next()?;
@@ -58,7 +63,7 @@ pub fn read_case(text: &str) -> Option<Case> {
         let (first, second) = line.split_once(' ')?;
         if first == "limit" {
             case.limit = second.parse().ok()?;
-        } else if matches!(first, "memory" | "sheets" | "schedule" | "levels" | "table") {
+        } else if SECTIONS.contains(&first) {
             section = first.to_string();
             resize(&mut case, first, second.parse().ok()?);
         } else {
@@ -74,6 +79,7 @@ fn resize(case: &mut Case, section: &str, length: usize) {
         "sheets" => case.sheets.resize(length, 0),
         "schedule" => case.schedule.resize(length, 0),
         "levels" => case.levels.resize(length, 0),
+        "vectors" => case.vectors = vec![0; length],
         _ => case.table.resize(length, 0),
     }
 }
@@ -84,6 +90,7 @@ fn put(case: &mut Case, section: &str, index: usize, text: &str) -> Option<()> {
         "schedule" => put_bytes(&mut case.schedule, index, text),
         "sheets" => put_word(&mut case.sheets, index, text),
         "levels" => put_word(&mut case.levels, index, text),
+        "vectors" => put_word(&mut case.vectors, index, text),
         _ => {
             *case.table.get_mut(index)? = u64::from_str_radix(text, 16).ok()?;
             Some(())

@@ -1,6 +1,7 @@
 //! The engine under test, through the C functions of its archive.
 
 use crate::check::{Codec, Engine};
+use crate::runs::Lent;
 
 // As include/or1k.h declares them: a slice is a pointer and a count of items.
 extern "C" {
@@ -16,6 +17,8 @@ extern "C" {
         levels: *const u32,
         levels_length: usize,
         limit: u32,
+        vectors: *const u32,
+        vectors_length: usize,
     ) -> u64;
     fn or1k_fast_run(
         memory: *mut u8,
@@ -27,6 +30,8 @@ extern "C" {
         levels: *const u32,
         levels_length: usize,
         limit: u32,
+        vectors: *const u32,
+        vectors_length: usize,
         cache: *mut u64,
         cache_length: usize,
     ) -> u64;
@@ -49,54 +54,43 @@ impl Codec for Archive {
 }
 
 impl Engine for Archive {
-    fn plain_run(
-        &self,
-        memory: &mut [u8],
-        sheets: &mut [u32],
-        schedule: &[u8],
-        levels: &[u32],
-        limit: u32,
-    ) -> u64 {
+    fn plain_run(&self, lent: &mut Lent) -> u64 {
         // SAFETY: each pointer is a slice's and goes with that slice's length,
         // and no two mutable slices overlap. The functions require nothing of
         // lengths, items or the limit: what they do not run they refuse.
         unsafe {
             or1k_plain_run(
-                memory.as_mut_ptr(),
-                memory.len(),
-                sheets.as_mut_ptr(),
-                sheets.len(),
-                schedule.as_ptr(),
-                schedule.len(),
-                levels.as_ptr(),
-                levels.len(),
-                limit,
+                lent.memory.as_mut_ptr(),
+                lent.memory.len(),
+                lent.sheets.as_mut_ptr(),
+                lent.sheets.len(),
+                lent.schedule.as_ptr(),
+                lent.schedule.len(),
+                lent.levels.as_ptr(),
+                lent.levels.len(),
+                lent.limit,
+                lent.vectors.as_ptr(),
+                lent.vectors.len(),
             )
         }
     }
-    fn fast_run(
-        &self,
-        memory: &mut [u8],
-        sheets: &mut [u32],
-        schedule: &[u8],
-        levels: &[u32],
-        limit: u32,
-        table: &mut [u64],
-    ) -> u64 {
+    fn fast_run(&self, lent: &mut Lent) -> u64 {
         // SAFETY: as above.
         unsafe {
             or1k_fast_run(
-                memory.as_mut_ptr(),
-                memory.len(),
-                sheets.as_mut_ptr(),
-                sheets.len(),
-                schedule.as_ptr(),
-                schedule.len(),
-                levels.as_ptr(),
-                levels.len(),
-                limit,
-                table.as_mut_ptr(),
-                table.len(),
+                lent.memory.as_mut_ptr(),
+                lent.memory.len(),
+                lent.sheets.as_mut_ptr(),
+                lent.sheets.len(),
+                lent.schedule.as_ptr(),
+                lent.schedule.len(),
+                lent.levels.as_ptr(),
+                lent.levels.len(),
+                lent.limit,
+                lent.vectors.as_ptr(),
+                lent.vectors.len(),
+                lent.table.as_mut_ptr(),
+                lent.table.len(),
             )
         }
     }

@@ -2,8 +2,9 @@
 
 use crate::isa::{Insn, Kind, Reg};
 use crate::state::{self, Core, CY, DSX, F, IEE, OV, OVE, SM, TEE, UNMASKABLE};
+use crate::vectors::Vectors;
 
-/// Why an instruction did not complete.
+/// Why an instruction did not complete, in the order of the list of vectors.
 #[derive(Clone, Copy, Debug, PartialEq, Eq, PartialOrd, Ord, Hash)]
 pub enum Cause {
     Bus,
@@ -30,12 +31,13 @@ pub struct Step {
     pub stored: Option<u32>,
 }
 
-/// Memory as instructions meet it: they read all of it and write none of its
-/// start (02, note 5).
-pub struct Memory<'a> {
-    pub bytes: &'a mut [u8],
+/// The board as instructions meet it: they read all of its memory and write none
+/// of its start (02, note 5), and its handlers are where its vectors say (note 6).
+pub struct Board<'a> {
+    pub memory: &'a mut [u8],
     /// The length of the read-only start, a multiple of 4.
     pub limit: u32,
+    pub vectors: Vectors,
 }
 
 /// Where a completed instruction goes on.
@@ -52,20 +54,6 @@ enum Flow {
 type Outcome = Result<Flow, Exception>;
 
 impl Cause {
-    /// "Vectors: bus 200, alignment 600, illegal 700, ..."
-    pub fn vector(self) -> u32 {
-        match self {
-            Cause::Bus => 0x200,
-            Cause::Alignment => 0x600,
-            Cause::Illegal => 0x700,
-            Cause::Range => 0xb00,
-            Cause::Syscall => 0xc00,
-            Cause::Trap => 0xe00,
-            // 02, note 4.
-            Cause::Interrupt => 0x800,
-        }
-    }
-
     /// An exception that keeps EEAR.
     fn plain(self) -> Exception {
         Exception { cause: self, failing: None }
@@ -84,21 +72,21 @@ pub fn fetch(memory: &[u8], address: u32) -> Option<u32> {
 }
 
 /// "A fetch outside memory is a bus error."
-pub fn fetch_fault(core: &mut Core) -> Step {
+pub fn fetch_fault(core: &mut Core, vectors: &Vectors) -> Step {
     let exception = Cause::Bus.at(core.pc);
-    take(core, exception);
+    take(core, vectors, exception);
     Step { raised: Some(Cause::Bus), stored: None }
 }
 
 /// 02, note 4: what an entry of a running core does with its lines before its
 /// fetch, and the step that takes an interrupt "in place of a fetch", if it does.
 #[inline]
-pub fn interrupt(core: &mut Core, lines: u32) -> Option<Step> {
+pub fn interrupt(core: &mut Core, vectors: &Vectors, lines: u32) -> Option<Step> {
     latch(core, lines);
     // "PICSR is then not 0, IEE is 1 and no delay slot is pending"
     let taken = core.picsr != 0 && core.has(IEE) && !core.delay;
     taken.then(|| {
-        take(core, Cause::Interrupt.plain());
+        take(core, vectors, Cause::Interrupt.plain());
         Step { raised: Some(Cause::Interrupt), stored: None }
     })
 }
@@ -112,12 +100,12 @@ pub fn latch(core: &mut Core, lines: u32) {
 /// Runs one decoded instruction of core `who`, which is in mode 3. It is put
 /// into each run's loop, which spares a third of a step's work.
 #[inline(always)]
-pub fn execute(cores: &mut [Core], who: usize, memory: &mut Memory, insn: Insn) -> Step {
+pub fn execute(cores: &mut [Core], who: usize, board: &mut Board, insn: Insn) -> Step {
     let count = cores.len() as u32;
     let core = &mut cores[who];
-    match operate(core, (who as u32, count), memory, insn) {
+    match operate(core, (who as u32, count), board, insn) {
         Err(exception) => {
-            take(core, exception);
+            take(core, &board.vectors, exception);
             Step { raised: Some(exception.cause), stored: None }
         }
         Ok(Flow::Stored(word)) => {
@@ -134,7 +122,7 @@ pub fn execute(cores: &mut [Core], who: usize, memory: &mut Memory, insn: Insn) 
 
 /// Sorts an instruction to the function for its family.
 #[inline(always)]
-fn operate(core: &mut Core, identity: (u32, u32), memory: &mut Memory, insn: Insn) -> Outcome {
+fn operate(core: &mut Core, identity: (u32, u32), board: &mut Board, insn: Insn) -> Outcome {
     use Kind::*;
     match insn.kind {
         Illegal => Err(illegal(core)),
@@ -142,9 +130,9 @@ fn operate(core: &mut Core, identity: (u32, u32), memory: &mut Memory, insn: Ins
         Trap => Err(Cause::Trap.plain()),
         Nop if insn.imm == 1 => Ok(Flow::Halt),
         Nop | Msync | Psync | Csync => Ok(Flow::Next),
-        Lwa | Lwz | Lws | Lbz | Lbs | Lhz | Lhs => load(core, memory.bytes, insn),
-        Swa | Sw | Sb | Sh => store(core, memory, insn),
-        Cinvalidate | Cwriteback | Cflush => touch(core, memory.bytes, insn),
+        Lwa | Lwz | Lws | Lbz | Lbs | Lhz | Lhs => load(core, board.memory, insn),
+        Swa | Sw | Sb | Sh => store(core, board, insn),
+        Cinvalidate | Cwriteback | Cflush => touch(core, board.memory, insn),
         Add | Addc | Sub | Addi | Addic => sum(core, insn),
         Mfspr => Ok(read_special(core, identity, insn)),
         Mtspr => Ok(write_special(core, insn)),
@@ -224,12 +212,12 @@ fn reach(core: &Core, memory: &[u8], insn: Insn, width: usize) -> Result<usize, 
 #[inline]
 fn reach_to_write(
     core: &Core,
-    memory: &Memory,
+    board: &Board,
     insn: Insn,
     width: usize,
 ) -> Result<usize, Exception> {
-    let at = reach(core, memory.bytes, insn, width)?;
-    if at < memory.limit as usize {
+    let at = reach(core, board.memory, insn, width)?;
+    if at < board.limit as usize {
         return Err(Cause::Bus.at(at as u32));
     }
     Ok(at)
@@ -265,26 +253,26 @@ fn word_at(memory: &[u8], at: usize) -> u32 {
 }
 
 #[inline]
-fn store(core: &mut Core, memory: &mut Memory, insn: Insn) -> Outcome {
+fn store(core: &mut Core, board: &mut Board, insn: Insn) -> Outcome {
     let value = core.get(insn.b);
     let at = match insn.kind {
         Kind::Sb => {
-            let at = reach_to_write(core, memory, insn, 1)?;
-            memory.bytes[at] = value as u8;
+            let at = reach_to_write(core, board, insn, 1)?;
+            board.memory[at] = value as u8;
             at
         }
         Kind::Sh => {
-            let at = reach_to_write(core, memory, insn, 2)?;
-            memory.bytes[at..at + 2].copy_from_slice(&(value as u16).to_be_bytes());
+            let at = reach_to_write(core, board, insn, 2)?;
+            board.memory[at..at + 2].copy_from_slice(&(value as u16).to_be_bytes());
             at
         }
         _ => {
-            let at = reach_to_write(core, memory, insn, 4)?;
+            let at = reach_to_write(core, board, insn, 4)?;
             // The link is tested after the limit, and not where that raises.
             if insn.kind == Kind::Swa && !use_link(core, at as u32) {
                 return Ok(Flow::Next);
             }
-            memory.bytes[at..at + 4].copy_from_slice(&value.to_be_bytes());
+            board.memory[at..at + 4].copy_from_slice(&value.to_be_bytes());
             at
         }
     };
@@ -578,8 +566,9 @@ fn go_on(core: &mut Core, flow: Flow) {
     }
 }
 
-/// Takes an exception: the paragraph "Vectors".
-pub fn take(core: &mut Core, exception: Exception) {
+/// Takes an exception: the paragraph "Vectors", "read with" the run's list (02,
+/// note 6).
+pub fn take(core: &mut Core, vectors: &Vectors, exception: Exception) {
     let slot = core.delay;
     core.epcr = match exception.cause {
         Cause::Syscall => core.pc.wrapping_add(4),
@@ -595,5 +584,5 @@ pub fn take(core: &mut Core, exception: Exception) {
     core.delay = false;
     core.target = 0;
     core.clear_link();
-    core.pc = exception.cause.vector();
+    core.pc = vectors.of(exception.cause);
 }

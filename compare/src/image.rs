@@ -4,6 +4,7 @@ use crate::card::reset_sheets;
 use crate::cases::Case;
 use crate::isa::{self, Insn, Kind};
 use crate::state::{place, IEE, SHEET_WORDS};
+use crate::vectors::OLD;
 use std::ops::Range;
 use std::path::{Path, PathBuf};
 
@@ -59,15 +60,43 @@ impl Image {
         RESET as usize / 4..self.code_end() as usize / 4
     }
 
-    /// The program with a handler for interrupts (02, note 4). It clears what is
-    /// latched and returns, and so needs no register.
-    pub fn with_handler(mut self) -> Image {
+    /// The program with a handler for interrupts (02, note 4) at their vector. It clears
+    /// what is latched and returns, and so needs no register.
+    pub fn with_handler(mut self, vector: u32) -> Image {
         let clear = Insn::new(Kind::Mtspr, 0, 0, 0, 0x4802);
         let back = Insn::new(Kind::Rfe, 0, 0, 0, 0);
-        for (index, form) in [clear, back].into_iter().enumerate() {
-            self.words[0x800 / 4 + index] = isa::encode(form.entry()) as u32;
+        let handler = [clear, back].map(|form| isa::encode(form.entry()) as u32);
+        self.put(vector, handler);
+        self
+    }
+
+    /// The program with what stands at its vectors, a jump and its slot each, moved to
+    /// where a list has them (02, note 6). An illegal word is left behind.
+    pub fn with_vectors(mut self, list: &[u32; 7]) -> Image {
+        // It has none for interrupts.
+        let moved = [0, 1, 2, 3, 4, 5].map(|place| self.jump_from(OLD[place], list[place]));
+        for old in &OLD[..6] {
+            self.put(*old, [isa::ILLEGAL_WORD; 2]);
+        }
+        for (jump, &vector) in moved.into_iter().zip(list) {
+            self.put(vector, jump);
         }
         self
+    }
+
+    /// The jump at an address and its slot, as they must be at another.
+    fn jump_from(&self, from: u32, to: u32) -> [u32; 2] {
+        let at = from as usize / 4;
+        let Insn { kind, imm, .. } = isa::decode_insn(self.words[at]);
+        let away = imm.wrapping_add(from).wrapping_sub(to);
+        [isa::encode(Insn::new(kind, 0, 0, 0, away).entry()) as u32, self.words[at + 1]]
+    }
+
+    /// Puts two words at an address, if need be after the end.
+    fn put(&mut self, address: u32, words: [u32; 2]) {
+        let at = address as usize / 4;
+        self.words.resize(self.words.len().max(at + 2), 0);
+        self.words[at..at + 2].copy_from_slice(&words);
     }
 
     /// Cores just reset, the image in memory, no schedule, no limit and an empty
@@ -79,6 +108,7 @@ impl Image {
             schedule: vec![],
             levels: vec![],
             limit: 0,
+            vectors: OLD.to_vec(),
             table: vec![0; bytes / 4],
         };
         for (index, &word) in self.words.iter().enumerate() {

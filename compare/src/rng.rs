@@ -23,6 +23,11 @@ impl Rng {
         Rng::new(!self.state.rotate_left(32))
     }
 
+    /// A third one.
+    pub fn far_aside(&self) -> Rng {
+        Rng::new(!self.state.rotate_left(16))
+    }
+
     pub fn next_u32(&mut self) -> u32 {
         (self.next_u64() >> 32) as u32
     }

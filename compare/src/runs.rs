@@ -1,14 +1,41 @@
 //! The plain run, the fast run in two wordings, and what turns them back.
 
-use crate::exec::{self, Memory, Step};
+use crate::exec::{self, Board, Step};
 use crate::isa::{self, Insn};
 use crate::state::{self, Core, SHEET_WORDS};
+use crate::vectors::Vectors;
 
 /// Most entries of a schedule.
 pub const SCHEDULE_MOST: usize = 65_536;
 pub const MEMORY_LEAST: usize = 4_096;
 pub const MEMORY_MOST: usize = 1_048_576;
 pub const CORES_MOST: usize = 4;
+
+/// What a run is lent; a plain run leaves the table aside.
+pub struct Lent<'a> {
+    pub memory: &'a mut [u8],
+    pub sheets: &'a mut [u32],
+    pub schedule: &'a [u8],
+    pub levels: &'a [u32],
+    pub limit: u32,
+    pub vectors: &'a [u32],
+    pub table: &'a mut [u64],
+}
+
+impl Lent<'_> {
+    /// The same for another run, or for one with something else in its place.
+    pub fn again(&mut self) -> Lent<'_> {
+        Lent {
+            memory: self.memory,
+            sheets: self.sheets,
+            schedule: self.schedule,
+            levels: self.levels,
+            limit: self.limit,
+            vectors: self.vectors,
+            table: self.table,
+        }
+    }
+}
 
 /// What a run hands back: the refusal's number (0: it ran) and the counts.
 #[derive(Clone, Copy, Debug, PartialEq, Eq, Default)]
@@ -66,58 +93,48 @@ pub fn limit_is_good(memory: &[u8], limit: u32) -> bool {
     limit.is_multiple_of(4) && limit as usize <= memory.len()
 }
 
-/// The first of refusals 1 to 5, 11 and 12 that is met, or 0. 02, notes 4 and 5,
-/// have 11 "after 5" and 12 "after 11".
-pub fn plain_refusal(
-    memory: &[u8],
-    sheets: &[u32],
-    schedule: &[u8],
-    levels: &[u32],
-    limit: u32,
-) -> u8 {
-    if !memory_is_good(memory) {
+/// The first of refusals 1 to 5 and 11 to 13 that is met, or 0. 02, notes 4 to 6, have
+/// 11 "after 5", 12 "after 11" and 13 "after 12".
+pub fn plain_refusal(lent: &Lent) -> u8 {
+    if !memory_is_good(lent.memory) {
         return 1;
     }
-    let Some(cores) = core_count(sheets) else {
+    let Some(cores) = core_count(lent.sheets) else {
         return 2;
     };
-    if !sheets.chunks(SHEET_WORDS).all(state::sheet_is_good) {
+    if !lent.sheets.chunks(SHEET_WORDS).all(state::sheet_is_good) {
         return 3;
     }
-    if schedule.len() > SCHEDULE_MOST {
+    if lent.schedule.len() > SCHEDULE_MOST {
         return 4;
     }
-    if schedule.iter().any(|&entry| usize::from(entry) >= cores) {
+    if lent.schedule.iter().any(|&entry| usize::from(entry) >= cores) {
         return 5;
     }
-    if levels.len() != schedule.len() {
+    if lent.levels.len() != lent.schedule.len() {
         return 11;
     }
-    if !limit_is_good(memory, limit) {
+    if !limit_is_good(lent.memory, lent.limit) {
         return 12;
+    }
+    if Vectors::of_list(lent.vectors).is_none() {
+        return 13;
     }
     0
 }
 
-/// The first of refusals 1 to 5, 11, 12, 6 and 7 that is met, or 0.
-pub fn fast_refusal(
-    memory: &[u8],
-    sheets: &[u32],
-    schedule: &[u8],
-    levels: &[u32],
-    limit: u32,
-    table: &[u64],
-) -> u8 {
-    let plain = plain_refusal(memory, sheets, schedule, levels, limit);
+/// The first of refusals 1 to 5, 11 to 13, 6 and 7 that is met, or 0.
+pub fn fast_refusal(lent: &Lent) -> u8 {
+    let plain = plain_refusal(lent);
     if plain != 0 {
         return plain;
     }
-    if table.len() != memory.len() / 4 {
+    if lent.table.len() != lent.memory.len() / 4 {
         return 6;
     }
     let is_form =
         |(entry, word): (&u64, &[u8])| *entry == 0 || *entry == isa::decode(word_of(word));
-    if table.iter().zip(memory.chunks_exact(4)).all(is_form) {
+    if lent.table.iter().zip(lent.memory.chunks_exact(4)).all(is_form) {
         0
     } else {
         7
@@ -144,74 +161,69 @@ fn write_sheets(cores: &[Core], sheets: &mut [u32]) {
     }
 }
 
+/// The board of a run that nothing refuses, and its table.
+fn board<'a>(lent: &'a mut Lent) -> (Board<'a>, &'a mut [u64]) {
+    let vectors = Vectors::of_list(lent.vectors).expect("a list that 13 lets pass");
+    (Board { memory: lent.memory, limit: lent.limit, vectors }, lent.table)
+}
+
 /// The plain run: fetches, decodes and executes every entry afresh.
-pub fn plain_run(
-    memory: &mut [u8],
-    sheets: &mut [u32],
-    schedule: &[u8],
-    levels: &[u32],
-    limit: u32,
-) -> Answer {
-    let refusal = plain_refusal(memory, sheets, schedule, levels, limit);
+pub fn plain_run(lent: &mut Lent) -> Answer {
+    let refusal = plain_refusal(lent);
     if refusal != 0 {
         return Answer::refused(refusal);
     }
-    let mut all = read_sheets(sheets);
-    let cores = &mut all[..sheets.len() / SHEET_WORDS];
-    let memory = &mut Memory { bytes: memory, limit };
+    let mut all = read_sheets(lent.sheets);
+    let cores = &mut all[..lent.sheets.len() / SHEET_WORDS];
+    let (schedule, levels) = (lent.schedule, lent.levels);
+    let (board, _) = &mut board(lent);
     let mut answer = Answer::default();
     for (&entry, &lines) in schedule.iter().zip(levels) {
         let who = usize::from(entry);
         if cores[who].running {
             answer.executed += 1;
-            let interrupt = exec::interrupt(&mut cores[who], lines);
-            answer.note(interrupt.unwrap_or_else(|| plain_step(memory, cores, who)));
+            let interrupt = exec::interrupt(&mut cores[who], &board.vectors, lines);
+            answer.note(interrupt.unwrap_or_else(|| plain_step(board, cores, who)));
         }
     }
-    write_sheets(cores, sheets);
+    write_sheets(cores, lent.sheets);
     answer
 }
 
 /// "PC outside memory is a bus error, else the word that memory then holds
 /// there is fetched, decoded and executed."
-pub fn plain_step(memory: &mut Memory, cores: &mut [Core], who: usize) -> Step {
-    match exec::fetch(memory.bytes, cores[who].pc) {
-        None => exec::fetch_fault(&mut cores[who]),
-        Some(word) => exec::execute(cores, who, memory, isa::decode_insn(word)),
+pub fn plain_step(board: &mut Board, cores: &mut [Core], who: usize) -> Step {
+    match exec::fetch(board.memory, cores[who].pc) {
+        None => exec::fetch_fault(&mut cores[who], &board.vectors),
+        Some(word) => exec::execute(cores, who, board, isa::decode_insn(word)),
     }
 }
 
 /// The fast run as "Fast run" words it: the table's entries are executed. An
 /// interrupt fetches nothing, so it neither counts as reused nor fills an entry.
-pub fn fast_run(
-    memory: &mut [u8],
-    sheets: &mut [u32],
-    schedule: &[u8],
-    levels: &[u32],
-    limit: u32,
-    table: &mut [u64],
-) -> Answer {
-    let refusal = fast_refusal(memory, sheets, schedule, levels, limit, table);
+pub fn fast_run(lent: &mut Lent) -> Answer {
+    let refusal = fast_refusal(lent);
     if refusal != 0 {
         return Answer::refused(refusal);
     }
-    let mut all = read_sheets(sheets);
-    let cores = &mut all[..sheets.len() / SHEET_WORDS];
-    let memory = &mut Memory { bytes: memory, limit };
+    let mut all = read_sheets(lent.sheets);
+    let cores = &mut all[..lent.sheets.len() / SHEET_WORDS];
+    let (schedule, levels) = (lent.schedule, lent.levels);
+    let (board, table) = &mut board(lent);
     let mut answer = Answer::default();
     for (&entry, &lines) in schedule.iter().zip(levels) {
         let who = usize::from(entry);
         if cores[who].running {
             answer.executed += 1;
-            let (step, reused) = match exec::interrupt(&mut cores[who], lines) {
+            let (step, reused) = match exec::interrupt(&mut cores[who], &board.vectors, lines) {
                 Some(interrupt) => (interrupt, false),
-                None => fast_step(memory, cores, who, table),
+                None => fast_step(board, cores, who, table),
             };
             answer.note(step);
             answer.reused += u32::from(reused);
         }
     }
-    write_sheets(cores, sheets);
+    write_sheets(cores, lent.sheets);
     answer
 }
 
@@ -219,20 +231,20 @@ pub fn fast_run(
 /// a filled entry as it stands and not its word".
 #[inline]
 pub fn fast_step(
-    memory: &mut Memory,
+    board: &mut Board,
     cores: &mut [Core],
     who: usize,
     table: &mut [u64],
 ) -> (Step, bool) {
     let pc = cores[who].pc;
     let Some(entry) = table.get_mut(pc as usize / 4) else {
-        return (exec::fetch_fault(&mut cores[who]), false);
+        return (exec::fetch_fault(&mut cores[who], &board.vectors), false);
     };
     let reused = *entry != 0;
     if !reused {
-        *entry = isa::decode(word_of(&memory.bytes[pc as usize..pc as usize + 4]));
+        *entry = isa::decode(word_of(&board.memory[pc as usize..pc as usize + 4]));
     }
-    let step = exec::execute(cores, who, memory, Insn::from_entry(*entry));
+    let step = exec::execute(cores, who, board, Insn::from_entry(*entry));
     if let Some(word) = step.stored {
         table[word as usize / 4] = 0;
     }
@@ -242,30 +254,25 @@ pub fn fast_step(
 /// The fast run as "History" words it: a plain run beside which it is noted
 /// what words are held; the table is written from that at the end. An interrupt
 /// is no fetch and makes no word held.
-pub fn fast_run_by_history(
-    memory: &mut [u8],
-    sheets: &mut [u32],
-    schedule: &[u8],
-    levels: &[u32],
-    limit: u32,
-    table: &mut [u64],
-) -> Answer {
-    let refusal = fast_refusal(memory, sheets, schedule, levels, limit, table);
+pub fn fast_run_by_history(lent: &mut Lent) -> Answer {
+    let refusal = fast_refusal(lent);
     if refusal != 0 {
         return Answer::refused(refusal);
     }
-    let mut held: Vec<bool> = table.iter().map(|&entry| entry != 0).collect();
-    let mut all = read_sheets(sheets);
-    let cores = &mut all[..sheets.len() / SHEET_WORDS];
-    let memory = &mut Memory { bytes: memory, limit };
+    let mut held: Vec<bool> = lent.table.iter().map(|&entry| entry != 0).collect();
+    let mut all = read_sheets(lent.sheets);
+    let cores = &mut all[..lent.sheets.len() / SHEET_WORDS];
+    let (schedule, levels) = (lent.schedule, lent.levels);
+    let (board, table) = &mut board(lent);
     let mut answer = Answer::default();
     for (&entry, &lines) in schedule.iter().zip(levels) {
         let who = usize::from(entry);
         if cores[who].running {
             answer.executed += 1;
-            let step = exec::interrupt(&mut cores[who], lines).unwrap_or_else(|| {
+            let interrupt = exec::interrupt(&mut cores[who], &board.vectors, lines);
+            let step = interrupt.unwrap_or_else(|| {
                 answer.reused += u32::from(hold(&mut held, cores[who].pc));
-                plain_step(memory, cores, who)
+                plain_step(board, cores, who)
             });
             answer.note(step);
             if let Some(word) = step.stored {
@@ -273,8 +280,8 @@ pub fn fast_run_by_history(
             }
         }
     }
-    write_sheets(cores, sheets);
-    write_table(memory.bytes, &held, table);
+    write_table(board.memory, &held, table);
+    write_sheets(cores, lent.sheets);
     answer
 }
 

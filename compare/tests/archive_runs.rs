@@ -7,6 +7,7 @@
 mod common;
 
 use common::watch::Counts;
+use common::wrong_lists::WrongLists;
 use common::{file_of, show, stop};
 use compare::battery::Pair;
 use compare::cases::{self, Case};
@@ -16,9 +17,11 @@ use compare::engine::Archive;
 use compare::guard::Guarded;
 use compare::isa;
 use compare::limits;
+use compare::lists;
 use compare::rng::Rng;
 use compare::runs::{self, MEMORY_LEAST, MEMORY_MOST, SCHEDULE_MOST};
 use compare::state::{place, Core, IEE, SHEET_WORDS};
+use compare::vectors::OLD;
 use std::collections::BTreeMap;
 use std::ops::Range;
 use std::sync::atomic::{AtomicU64, Ordering};
@@ -98,7 +101,8 @@ fn short_schedules() {
     for_seeds("short schedules", 2_000_000..2_030_000, |seed| PAIR.accepted_cases(one(seed), 8));
 }
 
-/// What a run left goes into the next one, which accepts it and has its own limit.
+/// What a run left goes into the next one, which accepts it and has its own limit and
+/// vectors.
 #[test]
 fn runs_on_what_the_last_left() {
     for_seeds("runs in a row", 3_000_000..3_004_000, |seed| {
@@ -109,6 +113,7 @@ fn runs_on_what_the_last_left() {
             case = check::after_fast(PAIR.other, &case).case;
             case.throw_schedule(&mut rng, 200);
             case.limit = limits::good(&mut rng.aside(), &case);
+            lists::throw(&mut rng.far_aside(), &mut case);
         }
         Ok(())
     });
@@ -116,23 +121,25 @@ fn runs_on_what_the_last_left() {
 
 /// What would be due beside a wrong limit, or 0; nothing, if the limit is good.
 fn beside_the_limit(case: &Case) -> Option<u8> {
-    let Case { memory, sheets, schedule, levels, limit, table } = case;
-    let wrong = !runs::limit_is_good(memory, *limit);
-    wrong.then(|| runs::fast_refusal(memory, sheets, schedule, levels, 0, table))
+    let wrong = !runs::limit_is_good(&case.memory, case.limit);
+    wrong.then(|| Case { limit: 0, ..case.clone() }.refusal())
 }
 
 #[test]
 fn broken_cases() {
     let met: Mutex<BTreeMap<u8, u32>> = Mutex::default();
     let beside: Mutex<BTreeMap<u8, u32>> = Mutex::default();
+    let lists: Mutex<WrongLists> = Mutex::default();
     for_seeds("broken cases", 4_000_000..4_040_000, |seed| {
         let (case, refusal) = cases::broken_case(&mut Rng::new(seed));
         *met.lock().expect("no panic").entry(refusal).or_default() += 1;
         if let Some(other) = beside_the_limit(&case) {
             *beside.lock().expect("no panic").entry(other).or_default() += 1;
         }
-        PAIR.broken_cases(one(seed))
+        lists.lock().expect("no panic").note(&case);
+        PAIR.case(&case, refusal).map_err(|text| format!("seed {seed}: {text}"))
     });
+    lists.into_inner().expect("no panic").expect("broken cases", 15);
     let met = met.into_inner().expect("no panic");
     let beside = beside.into_inner().expect("no panic");
     show(&format!("broken cases, how many of each beside a wrong limit: {beside:?}"));
@@ -177,6 +184,7 @@ fn memory_lengths() {
         case.table = vec![0; bytes / 4];
         case.sheets[place::PC] = (bytes - 4 * rng.between(1, 12)) as u32;
         case.limit = limits::good(&mut rng.aside(), &case);
+        lists::throw(&mut rng.far_aside(), &mut case);
         PAIR.case(&case, 0).map_err(|text| format!("seed {seed}: {text}"))
     });
 }
@@ -204,6 +212,7 @@ fn the_greatest_counts() {
             schedule: vec![0; SCHEDULE_MOST],
             levels: vec![0; SCHEDULE_MOST],
             limit: 0,
+            vectors: OLD.to_vec(),
             table: vec![isa::decode(word); MEMORY_LEAST / 4],
         };
         if let Err(text) = PAIR.case(&case, 0) {
@@ -225,6 +234,7 @@ fn the_most_interrupts() {
         schedule: vec![0; SCHEDULE_MOST],
         levels: vec![u32::MAX; SCHEDULE_MOST],
         limit: 0,
+        vectors: OLD.to_vec(),
         table: vec![0; MEMORY_LEAST / 4],
     };
     case.sheets[place::SR] |= IEE;
@@ -242,6 +252,7 @@ fn lengths(memory: usize, sheets: &[u32], [entries, levels]: [usize; 2], limit: 
         schedule: vec![0; entries],
         levels: vec![0; levels],
         limit,
+        vectors: OLD.to_vec(),
         table: vec![0; table],
     };
     if let Err(text) = check::same_case(PAIR.one, PAIR.other, &case) {
@@ -297,6 +308,62 @@ fn any_limits() {
     }
 }
 
+/// Lists at the edges of each rule, with every other length right or not.
+#[test]
+fn any_lists() {
+    let good = good_sheets(2 * SHEET_WORDS);
+    let mut lists: Vec<Vec<u32>> = (0..=16).map(|length| (1..=length).collect()).collect();
+    lists.extend((0..=16).map(|length| (1..=length).map(|number| 4 * number).collect()));
+    for place in 0..7 {
+        for address in [0, 1, 2, 3, 0x10, 0xf_fffc, 0xf_ffff, 0x10_0000, 1 << 31, !3, u32::MAX] {
+            let mut list = vec![0x10, 0x14, 0x18, 0x1c, 0x20, 0x24, 0x28];
+            list[place] = address;
+            lists.push(list);
+        }
+    }
+    for list in &lists {
+        for (memory, entries, limit) in [(4_096, 7, 0), (4_096, 0, 0), (4_096, 7, 2), (0, 7, 0)] {
+            for (sheets, table) in [(&good[..], memory / 4), (&good[..], 1), (&good[1..], 1)] {
+                let case = Case {
+                    memory: vec![0; memory],
+                    sheets: sheets.to_vec(),
+                    schedule: vec![1; entries],
+                    levels: vec![0; entries],
+                    limit,
+                    vectors: list.clone(),
+                    table: vec![0; table],
+                };
+                if let Err(text) = check::same_case(PAIR.one, PAIR.other, &case) {
+                    stop("any lists", &text);
+                }
+            }
+        }
+    }
+}
+
+/// Bus errors whose vector is outside memory: nothing is ever fetched again.
+#[test]
+fn the_most_bus_errors() {
+    let mut case = Case {
+        memory: vec![0; MEMORY_LEAST],
+        sheets: compare::card::reset_sheets(1, MEMORY_LEAST as u32),
+        schedule: vec![0; SCHEDULE_MOST],
+        levels: vec![0; SCHEDULE_MOST],
+        limit: 0,
+        vectors: OLD.to_vec(),
+        table: vec![0; MEMORY_LEAST / 4],
+    };
+    for vector in [MEMORY_LEAST as u32, 0xf_fffc] {
+        case.vectors[0] = vector;
+        if let Err(text) = PAIR.case(&case, 0) {
+            stop("most bus errors", &text);
+        }
+        let left = check::after_fast(PAIR.other, &case);
+        assert_eq!((left.answer.raised, left.answer.reused), (65_536, 0));
+        assert_eq!(left.case.sheets[place::PC], vector);
+    }
+}
+
 /// A core that only stores where it may not: every entry raises, at both runs' most.
 #[test]
 fn the_most_refused_stores() {
@@ -307,6 +374,7 @@ fn the_most_refused_stores() {
         schedule: vec![0; SCHEDULE_MOST],
         levels: vec![0; SCHEDULE_MOST],
         limit: 4,
+        vectors: OLD.to_vec(),
         table: vec![0; MEMORY_LEAST / 4],
     };
     for limit in [4, MEMORY_LEAST as u32] {
@@ -332,5 +400,5 @@ fn the_archive_keeps_nothing() {
         Archive.name()
     );
     let engine: &dyn Engine = &Archive;
-    assert_eq!(engine.plain_run(&mut [], &mut [], &[], &[], 0), 1 << 60);
+    assert_eq!(engine.plain_run(&mut Case::default().lent()), 1 << 60);
 }

@@ -1,11 +1,12 @@
 //! The run card: the paper's example, every fault, and random cards.
 
 use compare::battery::Pair;
-use compare::card::{self, Fault, Job, IMAGE_BYTES};
+use compare::card::{self, Fault, File, Job, IMAGE_BYTES};
 use compare::cards;
+use compare::cases::Case;
 use compare::check::{BY_CACHE, BY_HISTORY};
 use compare::rng::Rng;
-use compare::runs;
+use compare::vectors::OLD;
 
 const EXAMPLE: &str = "cores=1\nmemory=4096\nentry=00000000\nsteps=6\nschedule=0\nwords=4\n\
     w=9c600005\nw=e0841800\nw=03ffffff\nw=15000000\n";
@@ -30,10 +31,13 @@ fn with_line(line: usize, text: &str) -> Vec<u8> {
 
 #[test]
 fn the_example() {
-    assert_eq!(card::output(EXAMPLE.as_bytes()), OUTPUT);
-    assert_eq!(card::output(b"cores=1\nmemory=4096\nentry=0\n"), "refused=9 line=3\n");
-    assert_eq!(card::output(&with_line(1, "core=1")), "refused=9 line=1\n");
-    assert_eq!(card::output(&with_line(1, "cores=5")), "refused=10 line=1\n");
+    assert_eq!(card::output(&File::Absent, EXAMPLE.as_bytes()), OUTPUT);
+    assert_eq!(
+        card::output(&File::Absent, b"cores=1\nmemory=4096\nentry=0\n"),
+        "refused=9 line=3\n"
+    );
+    assert_eq!(card::output(&File::Absent, &with_line(1, "core=1")), "refused=9 line=1\n");
+    assert_eq!(card::output(&File::Absent, &with_line(1, "cores=5")), "refused=10 line=1\n");
 }
 
 #[test]
@@ -45,7 +49,7 @@ fn several_cores_are_printed_in_turn() {
     let output = "executed=6\nraised=0\nreused=3\n\
         core=0 mode=0 pc=0000001c delay=0 sr=00008001\nr3=00000007\n\
         core=1 mode=0 pc=0000001c delay=0 sr=00008001\nr3=00000008\nend\n";
-    assert_eq!(card::output(card.as_bytes()), output);
+    assert_eq!(card::output(&File::Absent, card.as_bytes()), output);
 }
 
 /// 02, note 2: r4 is 7 times -3 and r5 that by -3; MACLO, which is then 3f, is
@@ -57,7 +61,7 @@ fn products_on_a_card() {
     let output = "executed=5\nraised=0\nreused=0\n\
         core=0 mode=0 pc=00000014 delay=0 sr=00008001\n\
         r3=fffffffd\nr4=ffffffeb\nr5=00000007\nend\n";
-    assert_eq!(card::output(card.as_bytes()), output);
+    assert_eq!(card::output(&File::Absent, card.as_bytes()), output);
 }
 
 #[test]
@@ -186,7 +190,7 @@ fn the_image_then_the_length_then_the_lines() {
     let mut card = EXAMPLE.as_bytes().to_vec();
     card.resize(65_536, b'\n');
     assert_eq!(parse(&card), fault(9, 11));
-    assert_eq!(card::output(&vec![b'0'; 65_537]), "refused=9 line=0\n");
+    assert_eq!(card::output(&File::Absent, &vec![b'0'; 65_537]), "refused=9 line=0\n");
 }
 
 #[test]
@@ -325,10 +329,15 @@ fn good_cards_give_accepted_runs() {
     for seed in 30_000..30_300 {
         let text = cards::good_card(&mut Rng::new(seed));
         let job = parse(&text).expect("a good card");
-        let sheets = card::reset_sheets(job.cores, job.entry);
-        let table = vec![0; job.memory / 4];
-        let (memory, levels) = (vec![0; job.memory], vec![0; job.schedule.len()]);
-        let refusal = runs::fast_refusal(&memory, &sheets, &job.schedule, &levels, 0, &table);
-        assert_eq!(refusal, 0, "seed {seed}");
+        let case = Case {
+            memory: vec![0; job.memory],
+            sheets: card::reset_sheets(job.cores, job.entry),
+            levels: vec![0; job.schedule.len()],
+            schedule: job.schedule,
+            limit: 0,
+            vectors: OLD.to_vec(),
+            table: vec![0; job.memory / 4],
+        };
+        assert_eq!(case.refusal(), 0, "seed {seed}");
     }
 }

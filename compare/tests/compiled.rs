@@ -14,6 +14,7 @@ use compare::isa::{self, Kind};
 use compare::rng::Rng;
 use compare::runs::SCHEDULE_MOST;
 use compare::state::{place, SHEET_WORDS};
+use compare::vectors::OLD;
 use std::collections::BTreeSet;
 use std::path::Path;
 use std::process::Command;
@@ -157,17 +158,45 @@ struct Way {
     entries: usize,
     /// A line is high once in so many entries; with 0 all lines are low.
     rare: usize,
-    limit: u32,
+    board: Board,
 }
+
+/// What a program is run on.
+#[derive(Clone, Copy, Debug)]
+struct Board {
+    bytes: usize,
+    limit: u32,
+    vectors: [u32; 7],
+}
+
+const BOARD: Board = Board { bytes: image::BYTES, limit: 0, vectors: OLD };
+/// The vectors elsewhere in their page, some where others were.
+const IN_THE_PAGE: Board =
+    Board { vectors: [0xe00, 0x200, 0x600, 0x708, 0xff8, 0x108, 0xb00], ..BOARD };
+/// The vectors after everything else, in more memory, one at its end.
+const AT_THE_END: Board = Board {
+    bytes: 2 * image::BYTES,
+    vectors: [0x1_4000, 0x1_fff8, 0x1_0000, 0x1_2340, 0x1_f00c, 0x1_0008, 0x1_0010],
+    ..BOARD
+};
+/// The vectors outside memory, for programs that do not need them.
+const NOWHERE: Board = Board {
+    vectors: [0xf_fffc, 0x1_0000, 0x8_0000, 0xf_fff8, 0x1_0004, 0x2_0000, 0xf_0000],
+    ..BOARD
+};
+/// The vectors in the code.
+const IN_THE_CODE: Board =
+    Board { vectors: [0x1000, 0x1004, 0x1008, 0x100c, 0x1010, 0x1014, 0x1018], ..BOARD };
 
 impl Way {
     fn start(&self, image: &Image) -> Case {
+        let Board { bytes, limit, vectors } = self.board;
         let case = if self.rare == 0 {
-            image.case(image::BYTES, self.cores)
+            image.case(bytes, self.cores)
         } else {
-            image.clone().with_handler().interruptible(image::BYTES, self.cores)
+            image.clone().with_handler(vectors[6]).interruptible(bytes, self.cores)
         };
-        Case { limit: self.limit, ..case }
+        Case { limit, vectors: vectors.to_vec(), ..case }
     }
 
     /// Lines 0 and 1 now and then, and any masked ones.
@@ -218,15 +247,14 @@ fn manners(cores: usize) -> &'static [Manner] {
     }
 }
 
-/// Runs a program's image in every manner, by calls of these lengths and at a limit,
+/// Runs a program's image in every manner, by calls of these lengths and on a board,
 /// and checks what it left.
-fn run_image(program: &Program, file: &str, image: &Image, calls: &[usize], limit: u32) {
-    assert_code_is_legal(file, image);
+fn run_image(program: &Program, file: &str, image: &Image, calls: &[usize], board: Board) {
     let (mut runs, mut executed) = (0, 0);
     for &cores in program.cores {
         for &manner in manners(cores) {
             for &entries in calls {
-                let way = Way { cores, manner, entries, rare: 0, limit };
+                let way = Way { cores, manner, entries, rare: 0, board };
                 let ran = run(file, image, way, program.raised);
                 assert_eq!(ran.raised, program.raised, "{file}");
                 assert_eq!(ran.refilled(), program.refilled, "{file}");
@@ -236,15 +264,16 @@ fn run_image(program: &Program, file: &str, image: &Image, calls: &[usize], limi
             }
         }
     }
-    show(&format!("{file}: right {runs} times at {limit:x}, {executed} instructions in all"));
+    let (limit, vector) = (board.limit, board.vectors[0]);
+    show(&format!("{file}: right {runs} times at the limit {limit:x}, bus errors to {vector:x}, {executed} instructions in all"));
 }
 
 /// Lamp changes while the program runs: the same results.
-fn run_interrupted(program: &Program, file: &str, image: &Image) {
+fn run_interrupted(program: &Program, file: &str, image: &Image, board: Board) {
     let (mut executed, mut interrupts) = (0, 0);
     for &cores in program.cores {
         for &manner in manners(cores) {
-            let way = Way { cores, manner, entries: 9_973, rare: 40, limit: 0 };
+            let way = Way { cores, manner, entries: 9_973, rare: 40, board };
             let ran = run(file, image, way, program.raised);
             assert_eq!(ran.refilled(), program.refilled, "{file}");
             (program.check)(&ran);
@@ -261,7 +290,7 @@ fn stored_images_with_interrupts() {
     for program in &PROGRAMS {
         for suffix in SUFFIXES {
             let file = format!("{}{suffix}", program.name);
-            run_interrupted(program, &file, &Image::load(&image::folder(), &file));
+            run_interrupted(program, &file, &Image::load(&image::folder(), &file), BOARD);
         }
     }
 }
@@ -269,7 +298,9 @@ fn stored_images_with_interrupts() {
 fn run_folder(folder: &Path, program: &Program) {
     for suffix in SUFFIXES {
         let file = format!("{}{suffix}", program.name);
-        run_image(program, &file, &Image::load(folder, &file), &[SCHEDULE_MOST, 9_973], 0);
+        let image = Image::load(folder, &file);
+        assert_code_is_legal(&file, &image);
+        run_image(program, &file, &image, &[SCHEDULE_MOST, 9_973], BOARD);
     }
 }
 
@@ -287,8 +318,57 @@ fn stored_images_with_a_limit() {
         for suffix in SUFFIXES {
             let file = format!("{}{suffix}", program.name);
             let image = Image::load(&image::folder(), &file);
-            run_image(program, &file, &image, &[SCHEDULE_MOST], program.limit(&image));
+            let board = Board { limit: program.limit(&image), ..BOARD };
+            run_image(program, &file, &image, &[SCHEDULE_MOST], board);
         }
+    }
+}
+
+/// 02, note 6: the vectors elsewhere, with the jumps to the handlers moved there, and
+/// half the time with interrupts: the same results, exceptions and fetches.
+#[test]
+fn stored_images_with_other_vectors() {
+    for program in &PROGRAMS {
+        for (suffix, board) in SUFFIXES.into_iter().zip([IN_THE_PAGE, AT_THE_END]) {
+            let file = format!("{}{suffix}", program.name);
+            let image = Image::load(&image::folder(), &file).with_vectors(&board.vectors);
+            match suffix {
+                "" => run_image(program, &file, &image, &[SCHEDULE_MOST], board),
+                _ => run_interrupted(program, &file, &image, board),
+            }
+        }
+    }
+}
+
+/// A program that raises nothing is the same with any list, one that leads nowhere or
+/// into its code too.
+#[test]
+fn programs_without_exceptions() {
+    let mut count = 0;
+    for program in PROGRAMS.iter().filter(|program| program.raised == 0) {
+        for (suffix, board) in SUFFIXES.into_iter().zip([NOWHERE, IN_THE_CODE]) {
+            let file = format!("{}{suffix}", program.name);
+            let image = Image::load(&image::folder(), &file);
+            run_image(program, &file, &image, &[SCHEDULE_MOST], board);
+            count += 1;
+        }
+    }
+    assert_eq!(count, 18);
+}
+
+/// One that raises does need its vectors: left where they were, its handlers are not
+/// found, and it halts with another result or never.
+#[test]
+fn handlers_left_behind() {
+    for name in ["calls", "products"] {
+        let image = Image::load(&image::folder(), name);
+        let mut case = image.case(NOWHERE.bytes, 1);
+        case.vectors = NOWHERE.vectors.to_vec();
+        case.set_schedule(vec![0; SCHEDULE_MOST]);
+        let left = call(&case).unwrap_or_else(|text| stop(name, &text));
+        let core = &left.case.sheets;
+        assert_eq!((core[place::PC], core[place::EEAR]), (0xf_fffc, 0xf_fffc), "{name}");
+        assert!(is_running(&left.case) && left.answer.raised > 1_000, "{name}");
     }
 }
 
@@ -301,8 +381,9 @@ fn patches_of_read_only_code() {
             let file = format!("{}{suffix}", program.name);
             let image = Image::load(&image::folder(), &file);
             let limit = image.code_end();
+            let board = Board { limit, ..BOARD };
             let way =
-                Way { cores: 1, manner: Manner::Turns, entries: SCHEDULE_MOST, rare: 0, limit };
+                Way { cores: 1, manner: Manner::Turns, entries: SCHEDULE_MOST, rare: 0, board };
             let ran = run(&file, &image, way, 1);
             let (result, failing) = (ran.result(0), ran.case.sheets[place::EEAR]);
             assert_eq!((ran.raised, result >> 16), (1, 0xdead), "{file}");

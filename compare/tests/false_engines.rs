@@ -6,22 +6,22 @@ mod common;
 use common::wrong_step::{assert_passed, assert_stopped, wrong, WrongStep};
 use common::{list, show};
 use compare::battery::{self, Pair};
-use compare::card;
+use compare::card::{self, File};
 use compare::check::{self, Codec, Engine, BY_CACHE, BY_HISTORY};
 use compare::isa::{Kind, Reg};
+use compare::runs::Lent;
 use compare::state::{place, OV, OVE, SHEET_WORDS};
 
 type Decode = fn(u32) -> u64;
 type Encode = fn(u64) -> u64;
-type Plain = fn(&mut [u8], &mut [u32], &[u8], &[u32], u32) -> u64;
-type Fast = fn(&mut [u8], &mut [u32], &[u8], &[u32], u32, &mut [u64]) -> u64;
+type Run = fn(&mut Lent) -> u64;
 
 struct False {
     name: &'static str,
     decode: Decode,
     encode: Encode,
-    plain: Plain,
-    fast: Fast,
+    plain: Run,
+    fast: Run,
 }
 
 impl Codec for False {
@@ -37,26 +37,11 @@ impl Codec for False {
 }
 
 impl Engine for False {
-    fn plain_run(
-        &self,
-        memory: &mut [u8],
-        sheets: &mut [u32],
-        schedule: &[u8],
-        levels: &[u32],
-        limit: u32,
-    ) -> u64 {
-        (self.plain)(memory, sheets, schedule, levels, limit)
+    fn plain_run(&self, lent: &mut Lent) -> u64 {
+        (self.plain)(lent)
     }
-    fn fast_run(
-        &self,
-        memory: &mut [u8],
-        sheets: &mut [u32],
-        schedule: &[u8],
-        levels: &[u32],
-        limit: u32,
-        table: &mut [u64],
-    ) -> u64 {
-        (self.fast)(memory, sheets, schedule, levels, limit, table)
+    fn fast_run(&self, lent: &mut Lent) -> u64 {
+        (self.fast)(lent)
     }
 }
 
@@ -65,12 +50,8 @@ const TRUE: False = False {
     name: "true",
     decode: |word| BY_CACHE.decode(word),
     encode: |entry| BY_CACHE.encode(entry),
-    plain: |memory, sheets, schedule, levels, limit| {
-        BY_CACHE.plain_run(memory, sheets, schedule, levels, limit)
-    },
-    fast: |memory, sheets, schedule, levels, limit, table| {
-        BY_CACHE.fast_run(memory, sheets, schedule, levels, limit, table)
-    },
+    plain: |lent| BY_CACHE.plain_run(lent),
+    fast: |lent| BY_CACHE.fast_run(lent),
 };
 
 /// Takes back the advance of cores that halted.
@@ -89,37 +70,44 @@ fn exchange(sheets: &mut [u32]) {
     }
 }
 
+/// The same with the first entry alone.
+fn first_entry<'a>(lent: &'a mut Lent) -> Lent<'a> {
+    let first = lent.schedule.len().min(1);
+    let (schedule, levels) = (&lent.schedule[..first], &lent.levels[..first]);
+    Lent { schedule, levels, ..lent.again() }
+}
+
 const WRONG_RUNS: [False; 8] = [
     False {
         name: "has MACLO before MACHI on a sheet",
-        plain: |memory, sheets, schedule, levels, limit| {
-            exchange(sheets);
-            let answer = BY_CACHE.plain_run(memory, sheets, schedule, levels, limit);
-            exchange(sheets);
+        plain: |lent| {
+            exchange(lent.sheets);
+            let answer = BY_CACHE.plain_run(lent);
+            exchange(lent.sheets);
             answer
         },
-        fast: |memory, sheets, schedule, levels, limit, table| {
-            exchange(sheets);
-            let answer = BY_CACHE.fast_run(memory, sheets, schedule, levels, limit, table);
-            exchange(sheets);
+        fast: |lent| {
+            exchange(lent.sheets);
+            let answer = BY_CACHE.fast_run(lent);
+            exchange(lent.sheets);
             answer
         },
         ..TRUE
     },
     False {
         name: "never fills the table",
-        fast: |memory, sheets, schedule, levels, limit, table| {
-            let kept = table.to_vec();
-            let answer = BY_CACHE.fast_run(memory, sheets, schedule, levels, limit, table);
-            table.copy_from_slice(&kept);
+        fast: |lent| {
+            let kept = lent.table.to_vec();
+            let answer = BY_CACHE.fast_run(lent);
+            lent.table.copy_from_slice(&kept);
             answer
         },
         ..TRUE
     },
     False {
         name: "invents a reused count",
-        fast: |memory, sheets, schedule, levels, limit, table| {
-            let answer = BY_CACHE.fast_run(memory, sheets, schedule, levels, limit, table);
+        fast: |lent| {
+            let answer = BY_CACHE.fast_run(lent);
             // One more whenever anything was raised.
             answer + ((answer >> 20 & 0xf_ffff).min(1) << 40)
         },
@@ -127,46 +115,35 @@ const WRONG_RUNS: [False; 8] = [
     },
     False {
         name: "runs the first entry and idles",
-        plain: |memory, sheets, schedule, levels, limit| {
-            let first = schedule.len().min(1);
-            BY_CACHE.plain_run(memory, sheets, &schedule[..first], &levels[..first], limit)
-        },
-        fast: |memory, sheets, schedule, levels, limit, table| {
-            let first = schedule.len().min(1);
-            BY_CACHE.fast_run(memory, sheets, &schedule[..first], &levels[..first], limit, table)
-        },
+        plain: |lent| BY_CACHE.plain_run(&mut first_entry(lent)),
+        fast: |lent| BY_CACHE.fast_run(&mut first_entry(lent)),
         ..TRUE
     },
     False {
         name: "halts a core before its l.nop 1",
-        plain: |memory, sheets, schedule, levels, limit| {
-            let before = sheets.to_vec();
-            let answer = BY_CACHE.plain_run(memory, sheets, schedule, levels, limit);
-            halt_early(sheets, &before);
+        plain: |lent| {
+            let before = lent.sheets.to_vec();
+            let answer = BY_CACHE.plain_run(lent);
+            halt_early(lent.sheets, &before);
             answer
         },
-        fast: |memory, sheets, schedule, levels, limit, table| {
-            let before = sheets.to_vec();
-            let answer = BY_CACHE.fast_run(memory, sheets, schedule, levels, limit, table);
-            halt_early(sheets, &before);
+        fast: |lent| {
+            let before = lent.sheets.to_vec();
+            let answer = BY_CACHE.fast_run(lent);
+            halt_early(lent.sheets, &before);
             answer
         },
         ..TRUE
     },
-    False { name: "idles", plain: |_, _, _, _, _| 0, fast: |_, _, _, _, _, _| 0, ..TRUE },
-    False {
-        name: "turns everyone back",
-        plain: |_, _, _, _, _| 1 << 60,
-        fast: |_, _, _, _, _, _| 1 << 60,
-        ..TRUE
-    },
+    False { name: "idles", plain: |_| 0, fast: |_| 0, ..TRUE },
+    False { name: "turns everyone back", plain: |_| 1 << 60, fast: |_| 1 << 60, ..TRUE },
     False {
         name: "turns a filled table back",
-        fast: |memory, sheets, schedule, levels, limit, table| {
-            if table.iter().all(|&entry| entry != 0) {
+        fast: |lent| {
+            if lent.table.iter().all(|&entry| entry != 0) {
                 return 7 << 60;
             }
-            BY_CACHE.fast_run(memory, sheets, schedule, levels, limit, table)
+            BY_CACHE.fast_run(lent)
         },
         ..TRUE
     },
@@ -234,10 +211,10 @@ fn wrong_immediate_sums_are_stopped() {
 fn a_run_that_writes_before_it_refuses_is_stopped() {
     let engine = False {
         name: "writes before it refuses",
-        fast: |memory, sheets, schedule, levels, limit, table| {
-            let answer = BY_CACHE.fast_run(memory, sheets, schedule, levels, limit, table);
+        fast: |lent| {
+            let answer = BY_CACHE.fast_run(lent);
             if answer >> 60 == 7 {
-                table[0] ^= 1;
+                lent.table[0] ^= 1;
             }
             answer
         },
@@ -249,17 +226,17 @@ fn a_run_that_writes_before_it_refuses_is_stopped() {
 
 /// Runs sheets of an old length, with what later notes put after each, all others
 /// as they are.
-fn widened(sheets: &mut [u32], old: usize, run: impl FnOnce(&mut [u32]) -> u64) -> u64 {
-    let cores = sheets.len() / old;
-    if !sheets.len().is_multiple_of(old) || !(1..=4).contains(&cores) {
-        return run(sheets);
+fn widened(lent: &mut Lent, old: usize, run: Run) -> u64 {
+    let cores = lent.sheets.len() / old;
+    if !lent.sheets.len().is_multiple_of(old) || !(1..=4).contains(&cores) {
+        return run(lent);
     }
     let mut wide = card::reset_sheets(cores, 0);
-    for (to, from) in wide.chunks_mut(SHEET_WORDS).zip(sheets.chunks(old)) {
+    for (to, from) in wide.chunks_mut(SHEET_WORDS).zip(lent.sheets.chunks(old)) {
         to[..old].copy_from_slice(from);
     }
-    let answer = run(&mut wide);
-    for (to, from) in sheets.chunks_mut(old).zip(wide.chunks(SHEET_WORDS)) {
+    let answer = run(&mut Lent { sheets: &mut wide, ..lent.again() });
+    for (to, from) in lent.sheets.chunks_mut(old).zip(wide.chunks(SHEET_WORDS)) {
         to.copy_from_slice(&from[..old]);
     }
     answer
@@ -268,26 +245,14 @@ fn widened(sheets: &mut [u32], old: usize, run: impl FnOnce(&mut [u32]) -> u64) 
 const OLD_SHEETS: [False; 2] = [
     False {
         name: "takes sheets of 42 words",
-        plain: |memory, sheets, schedule, levels, limit| {
-            widened(sheets, 42, |wide| BY_CACHE.plain_run(memory, wide, schedule, levels, limit))
-        },
-        fast: |memory, sheets, schedule, levels, limit, table| {
-            widened(sheets, 42, |wide| {
-                BY_CACHE.fast_run(memory, wide, schedule, levels, limit, table)
-            })
-        },
+        plain: |lent| widened(lent, 42, TRUE.plain),
+        fast: |lent| widened(lent, 42, TRUE.fast),
         ..TRUE
     },
     False {
         name: "takes sheets of 44 words",
-        plain: |memory, sheets, schedule, levels, limit| {
-            widened(sheets, 44, |wide| BY_CACHE.plain_run(memory, wide, schedule, levels, limit))
-        },
-        fast: |memory, sheets, schedule, levels, limit, table| {
-            widened(sheets, 44, |wide| {
-                BY_CACHE.fast_run(memory, wide, schedule, levels, limit, table)
-            })
-        },
+        plain: |lent| widened(lent, 44, TRUE.plain),
+        fast: |lent| widened(lent, 44, TRUE.fast),
         ..TRUE
     },
 ];
@@ -470,9 +435,10 @@ fn wrong_register_numbers_are_stopped() {
 
 #[test]
 fn wrong_runners_are_stopped() {
-    let mut right = |card: &[u8]| card::output(card);
+    let mut right = |file: &File, card: &[u8]| card::output(file, card);
     assert_eq!(battery::printed_cards(0..300, &mut right), Ok(()));
-    let mut wrong = |card: &[u8]| card::output(card).replace("line=1\n", "line=2\n");
+    let mut wrong =
+        |file: &File, card: &[u8]| card::output(file, card).replace("line=1\n", "line=2\n");
     let text = battery::printed_cards(0..300, &mut wrong).expect_err("a wrong line");
     assert!(text.starts_with("seed "), "{text}");
 }

@@ -3,13 +3,14 @@
 
 mod common;
 
-use common::wrong_interrupt::{enter, WrongInterrupt, RIGHT};
+use common::wrong_interrupt::{WrongInterrupt, RIGHT};
 use common::wrong_refusal::{self, Turn, WrongRefusal};
 use common::wrong_step::{assert_passed, assert_stopped, wrong, Taken, WrongStep};
 use compare::battery::Pair;
 use compare::check::{Codec, Engine, BY_CACHE, BY_HISTORY};
 use compare::exec;
 use compare::isa::Kind::{self, *};
+use compare::runs::Lent;
 use compare::state::{place, Core, DSX, IEE, OVE, SHEET_WORDS, SM, TEE, UNMASKABLE};
 
 /// Whether these lines, if they are what is latched, interrupt a core.
@@ -127,45 +128,33 @@ const WRONG_CONDITIONS: [WrongInterrupt; 9] = [
 ];
 
 /// Enters as is due, then spoils the core, given what it was.
-fn spoiled(core: &mut Core, spoil: fn(&mut Core, &Core)) {
-    let before = *core;
-    enter(core);
-    spoil(core, &before);
-}
-
-const fn entered(name: &'static str, enter: fn(&mut Core)) -> WrongInterrupt {
-    WrongInterrupt { name, enter, ..RIGHT }
+const fn entered(name: &'static str, spoil: fn(&mut Core, &Core)) -> WrongInterrupt {
+    WrongInterrupt { name, spoil, ..RIGHT }
 }
 
 const WRONG_ENTRIES: [WrongInterrupt; 18] = [
-    entered("EPCR is the next address", |core| {
-        spoiled(core, |core, before| core.epcr = before.pc.wrapping_add(4))
+    entered("EPCR is the next address", |core, before| core.epcr = before.pc.wrapping_add(4)),
+    entered("EPCR is kept", |core, before| core.epcr = before.epcr),
+    entered("EEAR is PC", |core, before| core.eear = before.pc),
+    entered("EEAR is 0", |core, _| core.eear = 0),
+    entered("PICSR is cleared", |core, _| core.picsr = 0),
+    entered("PICSR loses its lowest line", |core, before| {
+        core.picsr = before.picsr & before.picsr.wrapping_sub(1)
     }),
-    entered("EPCR is kept", |core| spoiled(core, |core, before| core.epcr = before.epcr)),
-    entered("EEAR is PC", |core| spoiled(core, |core, before| core.eear = before.pc)),
-    entered("EEAR is 0", |core| spoiled(core, |core, _| core.eear = 0)),
-    entered("PICSR is cleared", |core| spoiled(core, |core, _| core.picsr = 0)),
-    entered("PICSR loses its lowest line", |core| {
-        spoiled(core, |core, before| core.picsr = before.picsr & before.picsr.wrapping_sub(1))
+    entered("PICMR is as at reset", |core, _| core.picmr = UNMASKABLE),
+    entered("IEE stays 1", |core, _| core.put(IEE, true)),
+    entered("TEE is kept", |core, before| core.put(TEE, before.has(TEE))),
+    entered("OVE is kept", |core, before| core.put(OVE, before.has(OVE))),
+    entered("SM is kept", |core, before| core.put(SM, before.has(SM))),
+    entered("DSX is kept", |core, before| core.put(DSX, before.has(DSX))),
+    entered("ESR has IEE 0", |core, _| core.esr &= !IEE),
+    entered("ESR is kept", |core, before| core.esr = before.esr),
+    entered("the link is kept", |core, before| {
+        (core.link, core.link_address) = (before.link, before.link_address);
     }),
-    entered("PICMR is as at reset", |core| spoiled(core, |core, _| core.picmr = UNMASKABLE)),
-    entered("IEE stays 1", |core| spoiled(core, |core, _| core.put(IEE, true))),
-    entered("TEE is kept", |core| spoiled(core, |core, before| core.put(TEE, before.has(TEE)))),
-    entered("OVE is kept", |core| spoiled(core, |core, before| core.put(OVE, before.has(OVE)))),
-    entered("SM is kept", |core| spoiled(core, |core, before| core.put(SM, before.has(SM)))),
-    entered("DSX is kept", |core| spoiled(core, |core, before| core.put(DSX, before.has(DSX)))),
-    entered("ESR has IEE 0", |core| spoiled(core, |core, _| core.esr &= !IEE)),
-    entered("ESR is kept", |core| spoiled(core, |core, before| core.esr = before.esr)),
-    entered("the link is kept", |core| {
-        spoiled(core, |core, before| {
-            (core.link, core.link_address) = (before.link, before.link_address);
-        })
-    }),
-    entered("the vector is 500", |core| spoiled(core, |core, _| core.pc = 0x500)),
-    entered("the handler's first instruction is skipped", |core| {
-        spoiled(core, |core, _| core.pc = 0x804)
-    }),
-    entered("MACHI and MACLO are cleared", |core| spoiled(core, |core, _| core.set_accumulator(0))),
+    entered("the vector is 500", |core, _| core.pc = 0x500),
+    entered("the handler's first instruction is skipped", |core, _| core.pc += 4),
+    entered("MACHI and MACLO are cleared", |core, _| core.set_accumulator(0)),
 ];
 
 const WRONG_COUNTS: [WrongInterrupt; 6] = [
@@ -313,7 +302,6 @@ fn wrong_interrupt_registers_are_stopped() {
 #[test]
 fn a_right_engine_passes() {
     assert_passed(&RIGHT);
-    assert_passed(&entered("enters again", |core| spoiled(core, |_, _| {})));
     assert_passed(&wrong("writes again", &[Mtspr], |taken| {
         write_status(taken, |old, new| old & new);
         write_mask(taken, |_, new| new | 3)
@@ -323,47 +311,47 @@ fn a_right_engine_passes() {
 const WRONG_REFUSALS: [WrongRefusal; 9] = [
     WrongRefusal {
         name: "has 11 before 5",
-        turn: |lent| match lent.due {
-            5 if lent.levels.len() != lent.entries => Turn::Refuse(11),
+        turn: |asked| match asked.due {
+            5 if asked.levels.len() != asked.entries => Turn::Refuse(11),
             _ => Turn::Right,
         },
     },
     WrongRefusal {
         name: "has 11 before 4",
-        turn: |lent| match lent.due {
-            4 if lent.levels.len() != lent.entries => Turn::Refuse(11),
+        turn: |asked| match asked.due {
+            4 if asked.levels.len() != asked.entries => Turn::Refuse(11),
             _ => Turn::Right,
         },
     },
     WrongRefusal {
         name: "has 11 after 6",
-        turn: |lent| match (lent.due, lent.with_levels) {
+        turn: |asked| match (asked.due, asked.with_levels) {
             (11, 6) => Turn::Refuse(6),
             _ => Turn::Right,
         },
     },
     WrongRefusal {
         name: "has 11 after 7",
-        turn: |lent| match (lent.due, lent.with_levels) {
+        turn: |asked| match (asked.due, asked.with_levels) {
             (11, 7) => Turn::Refuse(7),
             _ => Turn::Right,
         },
     },
     WrongRefusal {
         name: "has 11 for too few alone",
-        turn: |lent| match lent.due {
-            11 if lent.levels.len() > lent.entries => {
-                Turn::With(lent.levels[..lent.entries].to_vec())
+        turn: |asked| match asked.due {
+            11 if asked.levels.len() > asked.entries => {
+                Turn::With(asked.levels[..asked.entries].to_vec())
             }
             _ => Turn::Right,
         },
     },
     WrongRefusal {
         name: "has 11 for too many alone",
-        turn: |lent| match lent.due {
-            11 if lent.levels.len() < lent.entries => {
-                let mut levels = lent.levels.to_vec();
-                levels.resize(lent.entries, 0);
+        turn: |asked| match asked.due {
+            11 if asked.levels.len() < asked.entries => {
+                let mut levels = asked.levels.to_vec();
+                levels.resize(asked.entries, 0);
                 Turn::With(levels)
             }
             _ => Turn::Right,
@@ -371,18 +359,18 @@ const WRONG_REFUSALS: [WrongRefusal; 9] = [
     },
     WrongRefusal {
         name: "takes no levels for all low",
-        turn: |lent| match lent.due {
-            11 if lent.levels.is_empty() => Turn::With(vec![0; lent.entries]),
+        turn: |asked| match asked.due {
+            11 if asked.levels.is_empty() => Turn::With(vec![0; asked.entries]),
             _ => Turn::Right,
         },
     },
     WrongRefusal {
         name: "says 4 for 11",
-        turn: |lent| if lent.due == 11 { Turn::Refuse(4) } else { Turn::Right },
+        turn: |asked| if asked.due == 11 { Turn::Refuse(4) } else { Turn::Right },
     },
     WrongRefusal {
         name: "has 11 for no levels",
-        turn: |lent| if lent.levels.is_empty() { Turn::Refuse(11) } else { Turn::Right },
+        turn: |asked| if asked.levels.is_empty() { Turn::Refuse(11) } else { Turn::Right },
     },
 ];
 
@@ -400,15 +388,15 @@ struct WrongSheet {
 }
 
 impl WrongSheet {
-    fn around(&self, sheets: &mut [u32], run: impl FnOnce(&mut [u32]) -> u64) -> u64 {
-        for sheet in sheets.chunks_exact_mut(SHEET_WORDS) {
+    fn around(&self, lent: &mut Lent, run: impl FnOnce(&mut Lent) -> u64) -> u64 {
+        for sheet in lent.sheets.chunks_exact_mut(SHEET_WORDS) {
             let refusal = (self.before)(sheet);
             if refusal != 0 {
                 return u64::from(refusal) << 60;
             }
         }
-        let answer = run(sheets);
-        sheets.chunks_exact_mut(SHEET_WORDS).for_each(self.after);
+        let answer = run(lent);
+        lent.sheets.chunks_exact_mut(SHEET_WORDS).for_each(self.after);
         answer
     }
 }
@@ -426,28 +414,11 @@ impl Codec for WrongSheet {
 }
 
 impl Engine for WrongSheet {
-    fn plain_run(
-        &self,
-        memory: &mut [u8],
-        sheets: &mut [u32],
-        schedule: &[u8],
-        levels: &[u32],
-        limit: u32,
-    ) -> u64 {
-        self.around(sheets, |sheets| BY_CACHE.plain_run(memory, sheets, schedule, levels, limit))
+    fn plain_run(&self, lent: &mut Lent) -> u64 {
+        self.around(lent, |lent| BY_CACHE.plain_run(lent))
     }
-    fn fast_run(
-        &self,
-        memory: &mut [u8],
-        sheets: &mut [u32],
-        schedule: &[u8],
-        levels: &[u32],
-        limit: u32,
-        table: &mut [u64],
-    ) -> u64 {
-        self.around(sheets, |sheets| {
-            BY_CACHE.fast_run(memory, sheets, schedule, levels, limit, table)
-        })
+    fn fast_run(&self, lent: &mut Lent) -> u64 {
+        self.around(lent, |lent| BY_CACHE.fast_run(lent))
     }
 }
 

@@ -3,7 +3,7 @@
 
 mod common;
 
-use common::wrong_refusal::{self, Lent, Turn, WrongRefusal};
+use common::wrong_refusal::{self, turning, Asked, Turn, WrongRefusal};
 use common::wrong_step::{
     assert_passed, assert_stopped, held_to, wrong, Attempt, Taken, WrongStep,
 };
@@ -123,7 +123,7 @@ fn core_if_refused(taken: &mut Taken, spoil: fn(&mut Core, &Core, u32)) {
 fn write(taken: &mut Taken) {
     let (at, width) = (taken.address() as usize, width(taken.insn.kind) as usize);
     let value = taken.before.get(taken.insn.b).to_be_bytes();
-    taken.bytes[at..at + width].copy_from_slice(&value[4 - width..]);
+    taken.memory[at..at + width].copy_from_slice(&value[4 - width..]);
 }
 
 /// Clears the cores' links to the word of a store.
@@ -136,7 +136,7 @@ fn clear_links(taken: &mut Taken) {
 /// Makes another entry of the word of a store.
 fn make_entry(taken: &mut Taken, of: fn(u64) -> u64) {
     let at = taken.address() as usize / 4;
-    let word = exec::fetch(taken.bytes, 4 * at as u32).expect("a word of memory");
+    let word = exec::fetch(taken.memory, 4 * at as u32).expect("a word of memory");
     if let Some(table) = taken.table.as_deref_mut() {
         table[at] = of(isa::decode(word));
     }
@@ -262,13 +262,13 @@ fn a_right_engine_passes() {
 }
 
 /// Whether the limit alone would be turned back.
-fn limit_is_wrong(lent: &Lent) -> bool {
-    !lent.limit.is_multiple_of(4) || lent.limit as usize > lent.bytes
+fn limit_is_wrong(asked: &Asked) -> bool {
+    !asked.limit.is_multiple_of(4) || asked.limit as usize > asked.bytes
 }
 
 /// Refuses by 12 where another number is due and the limit is wrong too.
-fn before(lent: &Lent, due: u8) -> Turn {
-    if lent.due == due && limit_is_wrong(lent) {
+fn before(asked: &Asked, due: u8) -> Turn {
+    if asked.due == due && limit_is_wrong(asked) {
         Turn::Refuse(12)
     } else {
         Turn::Right
@@ -276,8 +276,8 @@ fn before(lent: &Lent, due: u8) -> Turn {
 }
 
 /// Refuses by another number where 12 is due and that one would be after it.
-fn after(lent: &Lent, other: u8) -> Turn {
-    if lent.due == 12 && lent.with_limit == other {
+fn after(asked: &Asked, other: u8) -> Turn {
+    if asked.due == 12 && asked.with_limit == other {
         Turn::Refuse(other)
     } else {
         Turn::Right
@@ -285,8 +285,8 @@ fn after(lent: &Lent, other: u8) -> Turn {
 }
 
 /// Runs with another limit where 12 is due and `takes` holds.
-fn taking(lent: &Lent, takes: bool, limit: u32) -> Turn {
-    if lent.due == 12 && takes {
+fn taking(asked: &Asked, takes: bool, limit: u32) -> Turn {
+    if asked.due == 12 && takes {
         Turn::HeldTo(limit)
     } else {
         Turn::Right
@@ -294,62 +294,60 @@ fn taking(lent: &Lent, takes: bool, limit: u32) -> Turn {
 }
 
 /// Refuses a good limit by 12.
-fn refusing(lent: &Lent, refuses: bool) -> Turn {
-    if lent.due == 0 && refuses {
+fn refusing(asked: &Asked, refuses: bool) -> Turn {
+    if asked.due == 0 && refuses {
         Turn::Refuse(12)
     } else {
         Turn::Right
     }
 }
 
-const fn turning(name: &'static str, turn: fn(&Lent) -> Turn) -> WrongRefusal {
-    WrongRefusal { name, turn }
-}
-
 const WRONG_NUMBERS: [WrongRefusal; 21] = [
-    turning("has 12 before 11", |lent| before(lent, 11)),
-    turning("has 12 before 5", |lent| before(lent, 5)),
-    turning("has 12 before 3", |lent| before(lent, 3)),
-    turning("has 12 after 6", |lent| after(lent, 6)),
-    turning("has 12 after 7", |lent| after(lent, 7)),
-    turning("says 11 for 12", |lent| match lent.due {
+    turning("has 12 before 11", |asked| before(asked, 11)),
+    turning("has 12 before 5", |asked| before(asked, 5)),
+    turning("has 12 before 3", |asked| before(asked, 3)),
+    turning("has 12 after 6", |asked| after(asked, 6)),
+    turning("has 12 after 7", |asked| after(asked, 7)),
+    turning("says 11 for 12", |asked| match asked.due {
         12 => Turn::Refuse(11),
         _ => Turn::Right,
     }),
-    turning("says 1 for a limit past memory", |lent| match lent.due {
-        12 if lent.limit as usize > lent.bytes => Turn::Refuse(1),
+    turning("says 1 for a limit past memory", |asked| match asked.due {
+        12 if asked.limit as usize > asked.bytes => Turn::Refuse(1),
         _ => Turn::Right,
     }),
-    turning("runs before it refuses", |lent| match lent.due {
+    turning("runs before it refuses", |asked| match asked.due {
         12 => Turn::RunAndRefuse(12),
         _ => Turn::Right,
     }),
-    turning("refuses memory's length", |lent| refusing(lent, lent.limit as usize == lent.bytes)),
-    turning("refuses 0", |lent| refusing(lent, lent.limit == 0)),
-    turning("asks for a multiple of 8", |lent| refusing(lent, !lent.limit.is_multiple_of(8))),
-    turning("takes 2 and the like", |lent| {
-        taking(lent, lent.limit as usize <= lent.bytes && lent.limit % 4 == 2, lent.limit & !3)
+    turning("refuses memory's length", |asked| {
+        refusing(asked, asked.limit as usize == asked.bytes)
     }),
-    turning("takes odd limits, cut down", |lent| {
-        taking(lent, lent.limit as usize <= lent.bytes, lent.limit & !3)
+    turning("refuses 0", |asked| refusing(asked, asked.limit == 0)),
+    turning("asks for a multiple of 8", |asked| refusing(asked, !asked.limit.is_multiple_of(8))),
+    turning("takes 2 and the like", |asked| {
+        taking(asked, asked.limit as usize <= asked.bytes && asked.limit % 4 == 2, asked.limit & !3)
     }),
-    turning("takes odd limits, rounded up", |lent| {
-        taking(lent, lent.limit as usize <= lent.bytes, (lent.limit | 3).wrapping_add(1))
+    turning("takes odd limits, cut down", |asked| {
+        taking(asked, asked.limit as usize <= asked.bytes, asked.limit & !3)
     }),
-    turning("takes one word past memory", |lent| {
-        taking(lent, lent.limit as usize == lent.bytes + 4, lent.bytes as u32)
+    turning("takes odd limits, rounded up", |asked| {
+        taking(asked, asked.limit as usize <= asked.bytes, (asked.limit | 3).wrapping_add(1))
     }),
-    turning("takes any multiple of 4", |lent| {
-        taking(lent, lent.limit.is_multiple_of(4), lent.bytes as u32)
+    turning("takes one word past memory", |asked| {
+        taking(asked, asked.limit as usize == asked.bytes + 4, asked.bytes as u32)
     }),
-    turning("takes a limit past memory for none", |lent| {
-        taking(lent, lent.limit as usize > lent.bytes, 0)
+    turning("takes any multiple of 4", |asked| {
+        taking(asked, asked.limit.is_multiple_of(4), asked.bytes as u32)
     }),
-    turning("reads the limit as signed", |lent| taking(lent, lent.limit >> 31 == 1, 0)),
-    turning("tests the limit in the fast run alone", |lent| taking(lent, !lent.fast, 0)),
-    turning("tests the limit in the plain run alone", |lent| taking(lent, lent.fast, 0)),
-    turning("does not test the limit of an empty schedule", |lent| {
-        taking(lent, lent.entries == 0, 0)
+    turning("takes a limit past memory for none", |asked| {
+        taking(asked, asked.limit as usize > asked.bytes, 0)
+    }),
+    turning("reads the limit as signed", |asked| taking(asked, asked.limit >> 31 == 1, 0)),
+    turning("tests the limit in the fast run alone", |asked| taking(asked, !asked.fast, 0)),
+    turning("tests the limit in the plain run alone", |asked| taking(asked, asked.fast, 0)),
+    turning("does not test the limit of an empty schedule", |asked| {
+        taking(asked, asked.entries == 0, 0)
     }),
 ];
 

@@ -5,7 +5,7 @@ mod common;
 
 use common::short::{self, core_after, core_of, counts, full, put, run, NOP, RFE, SR};
 use common::{asm, engines, BYTES};
-use compare::card;
+use compare::card::{self, File};
 use compare::cases::Case;
 use compare::check;
 use compare::isa::{self, Kind};
@@ -348,8 +348,8 @@ fn cards_have_all_lines_low() {
     let expected = "executed=8\nraised=0\nreused=0\n\
         core=0 mode=3 pc=00000020 delay=0 sr=00008005\n\
         r3=00000003\nr4=ffffffff\nr5=00008005\nr6=ffffffff\nend\n";
-    assert_eq!(card::output(text.as_bytes()), expected);
+    assert_eq!(card::output(&File::Absent, text.as_bytes()), expected);
     for engine in engines() {
-        check::same_card(engines()[0], engine, text.as_bytes()).unwrap();
+        check::same_card(engines()[0], engine, &File::Absent, text.as_bytes()).unwrap();
     }
 }

@@ -5,7 +5,7 @@ mod common;
 
 use common::short::{self, core_after, core_of, counts, full, put, run, NOP, RFE, SR};
 use common::{asm, engines, Bench, BYTES};
-use compare::card;
+use compare::card::{self, File};
 use compare::cases::Case;
 use compare::check;
 use compare::dump;
@@ -354,9 +354,9 @@ fn cards_have_no_limit() {
     let expected = "executed=3\nraised=0\nreused=0\n\
         core=0 mode=3 pc=0000000c delay=0 sr=00008001\n\
         r3=00000055\nr4=55600055\nend\n";
-    assert_eq!(card::output(text.as_bytes()), expected);
+    assert_eq!(card::output(&File::Absent, text.as_bytes()), expected);
     for engine in engines() {
-        check::same_card(engines()[0], engine, text.as_bytes()).unwrap();
+        check::same_card(engines()[0], engine, &File::Absent, text.as_bytes()).unwrap();
     }
 }
 

@@ -3,10 +3,11 @@
 mod common;
 
 use common::{asm, on_two, Bench};
+use compare::cases::Case;
 use compare::exec::Cause;
 use compare::isa::{self, Kind};
-use compare::runs;
 use compare::state::{Core, CY, DSX, F, OV};
+use compare::vectors::OLD;
 
 #[test]
 fn m1_to_m4_words() {
@@ -81,8 +82,17 @@ fn examples_of_the_refusals() {
     broken[0] = 1;
     let mut filled = table.clone();
     filled[0] = 1 << 56;
+    let case = |memory: &[u8], sheets: &[u32], schedule: &[u8], table: &[u64]| Case {
+        memory: memory.to_vec(),
+        sheets: sheets.to_vec(),
+        schedule: schedule.to_vec(),
+        levels: vec![0; schedule.len()],
+        limit: 0,
+        vectors: OLD.to_vec(),
+        table: table.to_vec(),
+    };
     let refusal = |memory: &[u8], sheets: &[u32], schedule: &[u8], table: &[u64]| {
-        runs::fast_refusal(memory, sheets, schedule, &vec![0; schedule.len()], 0, table)
+        case(memory, sheets, schedule, table).refusal()
     };
     assert_eq!(refusal(&memory, &good, &[0], &table), 0);
     assert_eq!(refusal(&vec![0; 4_098], &good, &[0], &table), 1);
@@ -94,7 +104,9 @@ fn examples_of_the_refusals() {
     assert_eq!(refusal(&memory, &good, &[1], &table), 5);
     assert_eq!(refusal(&memory, &good, &[0], &table[..1_023]), 6);
     assert_eq!(refusal(&memory, &good, &[0], &filled), 7);
-    assert_eq!(runs::fast_refusal(&memory, &good, &[0], &[], 0, &table), 11);
-    assert_eq!(runs::fast_refusal(&memory, &good, &[0], &[0], 2, &table), 12);
+    let other = case(&memory, &good, &[0], &table);
+    assert_eq!(Case { levels: vec![], ..other.clone() }.refusal(), 11);
+    assert_eq!(Case { limit: 2, ..other.clone() }.refusal(), 12);
+    assert_eq!(Case { vectors: vec![0x200; 7], ..other }.refusal(), 13);
     assert_eq!(isa::encode(0), 1 << 32);
 }

@@ -12,6 +12,7 @@ use compare::isa::{self, Kind};
 use compare::rng::Rng;
 use compare::runs::Answer;
 use compare::state::{place, Core, CY, DSX, F, IEE, OV, OVE, TEE};
+use compare::vectors::OLD;
 
 const SR: u32 = 0x8001;
 const LEAST: u32 = 0x8000_0000;
@@ -237,6 +238,7 @@ fn counts_of_products() {
                 schedule: vec![0],
                 levels: vec![0],
                 limit: 0,
+                vectors: OLD.to_vec(),
                 table: vec![0; BYTES / 4],
             };
             case.set_word(0x100 / 4, word_of(kind, 5, y));
@@ -382,6 +384,7 @@ fn places_on_a_sheet() {
         schedule: vec![1],
         levels: vec![0],
         limit: 0,
+        vectors: OLD.to_vec(),
         table: vec![0; BYTES / 4],
     };
     assert_eq!((case.sheets.len(), &case.sheets[42..44]), (92, [0, 0].as_slice()));

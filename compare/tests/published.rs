@@ -16,6 +16,7 @@ use compare::rng::Rng;
 use compare::state::place::{DELAY, EEAR, EPCR, ESR, LINK, LINK_ADDRESS, MODE, PC, SR, TARGET};
 use compare::state::place::{MACHI, MACLO, PICMR, PICSR};
 use compare::state::{CY, DSX, F, IEE, OV, OVE, SM, SR_RESET, TEE};
+use compare::vectors::OLD;
 use std::collections::BTreeSet;
 use std::path::Path;
 use std::process::Command;
@@ -791,6 +792,7 @@ fn case_of(result: &Outcome) -> Case {
         schedule: vec![0; result.code.len()],
         levels: result.lines.clone(),
         limit: 0,
+        vectors: OLD.to_vec(),
         table: vec![0; bytes / 4],
     };
     case.levels.resize(result.code.len(), 0);

@@ -4,15 +4,17 @@
 mod common;
 
 use common::watch::Counts;
+use common::wrong_lists::WrongLists;
 use compare::battery::Pair;
 use compare::cases::{self, Case};
 use compare::check::{self, Codec, BY_CACHE, BY_HISTORY};
 use compare::dump;
-use compare::exec::{self, Cause, Memory};
+use compare::exec::{self, Board, Cause};
 use compare::isa::{self, Kind};
 use compare::rng::Rng;
 use compare::runs;
 use compare::state::{Core, F, SHEET_WORDS};
+use compare::vectors::Vectors;
 use std::collections::BTreeSet;
 use std::ops::Range;
 
@@ -48,11 +50,16 @@ fn the_largest_memory() {
 
 #[test]
 fn broken_cases() {
-    let seeds = 200_000..204_000;
-    let numbers = seeds.clone().map(|seed| cases::broken_case(&mut Rng::new(seed)).1);
-    let seen: BTreeSet<u8> = numbers.collect();
+    let mut seen = BTreeSet::new();
+    let mut lists = WrongLists::default();
+    for seed in 200_000..204_000 {
+        let (case, refusal) = cases::broken_case(&mut Rng::new(seed));
+        lists.note(&case);
+        seen.insert(refusal);
+        expect(PAIR.case(&case, refusal).map_err(|text| format!("seed {seed}: {text}")));
+    }
     assert_eq!(seen, BTreeSet::from(cases::ORDER));
-    expect(PAIR.broken_cases(seeds));
+    lists.expect("broken cases", 1);
 }
 
 /// "Demand 3 is one claim about the whole schedule": a run in two parts, each
@@ -113,7 +120,8 @@ struct Reached {
 }
 
 fn watch(case: &Case, reached: &mut Reached) {
-    let memory = &mut Memory { bytes: &mut case.memory.clone(), limit: case.limit };
+    let vectors = Vectors::of_list(&case.vectors).expect("a good list");
+    let board = &mut Board { memory: &mut case.memory.clone(), limit: case.limit, vectors };
     let mut table = case.table.clone();
     let mut cores: Vec<Core> = case.sheets.chunks(SHEET_WORDS).map(Core::from_sheet).collect();
     for (&entry, &lines) in case.schedule.iter().zip(&case.levels) {
@@ -122,15 +130,15 @@ fn watch(case: &Case, reached: &mut Reached) {
         if !cores[who].running {
             continue;
         }
-        match exec::interrupt(&mut cores[who], lines) {
+        match exec::interrupt(&mut cores[who], &vectors, lines) {
             Some(step) => reached.raised.extend(step.raised.map(|cause| (cause, slot))),
-            None => watch_step(memory, &mut table, &mut cores, who, reached),
+            None => watch_step(board, &mut table, &mut cores, who, reached),
         }
     }
 }
 
 fn watch_step(
-    memory: &mut Memory,
+    board: &mut Board,
     table: &mut [u64],
     cores: &mut [Core],
     who: usize,
@@ -138,11 +146,11 @@ fn watch_step(
 ) {
     let before = cores.to_vec();
     let core = &before[who];
-    let kind = exec::fetch(memory.bytes, core.pc).map(|word| isa::decode_insn(word).kind);
+    let kind = exec::fetch(board.memory, core.pc).map(|word| isa::decode_insn(word).kind);
     let store = matches!(kind, Some(Kind::Sw | Kind::Sb | Kind::Sh | Kind::Swa));
     let (held, old) =
-        if store { (table.to_vec(), memory.bytes.to_vec()) } else { (vec![], vec![]) };
-    let (step, reused) = runs::fast_step(memory, cores, who, table);
+        if store { (table.to_vec(), board.memory.to_vec()) } else { (vec![], vec![]) };
+    let (step, reused) = runs::fast_step(board, cores, who, table);
     reached.kinds.extend(kind);
     reached.raised.extend(step.raised.map(|cause| (cause, core.delay)));
     reached.reused += u32::from(reused);
@@ -156,7 +164,7 @@ fn watch_step(
     if let Some(word) = step.stored {
         reached.own_word += u32::from(word == core.pc);
         reached.filled_word += u32::from(held[word as usize / 4] != 0);
-        reached.equal_value += u32::from(old == memory.bytes);
+        reached.equal_value += u32::from(old == board.memory);
         let lost = |(now, then): (&Core, &Core)| then.link && !now.link;
         let others = cores.iter().zip(&before).enumerate().filter(|(index, _)| *index != who);
         reached.lost_links += others.filter(|(_, pair)| lost(*pair)).count() as u32;

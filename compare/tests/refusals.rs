@@ -2,13 +2,14 @@
 
 mod common;
 
-use common::engines;
+use common::{engines, two_places};
 use compare::card::reset_sheets;
 use compare::cases::Case;
 use compare::check::{self, BY_CACHE};
 use compare::isa;
 use compare::runs::Answer;
 use compare::state::{place, SHEET_WORDS};
+use compare::vectors::OLD;
 
 /// A good case: nothing but l.nop, and every entry empty.
 fn good(cores: usize, bytes: usize) -> Case {
@@ -18,6 +19,7 @@ fn good(cores: usize, bytes: usize) -> Case {
         schedule: vec![0, (cores - 1) as u8],
         levels: vec![0; 2],
         limit: 0,
+        vectors: OLD.to_vec(),
         table: vec![0; memory.len() / 4],
         memory,
     }
@@ -51,6 +53,8 @@ fn packed_answers() {
     assert_eq!(Answer::unpack(11 << 60), Answer::refused(11));
     assert_eq!(Answer::refused(12).pack(), 12 << 60);
     assert_eq!(Answer::unpack(12 << 60), Answer::refused(12));
+    assert_eq!(Answer::refused(13).pack(), 13 << 60);
+    assert_eq!(Answer::unpack(13 << 60), Answer::refused(13));
 }
 
 #[test]
@@ -310,6 +314,130 @@ fn refusal_12_among_the_others() {
     }
 }
 
+/// A case with a list of vectors.
+fn with_vectors(list: &[u32]) -> Case {
+    Case { vectors: list.to_vec(), ..good(2, 4_096) }
+}
+
+/// The old list with one address, or more, in place of others.
+fn changed_list(changes: &[(usize, u32)]) -> Vec<u32> {
+    let mut list = OLD.to_vec();
+    for &(place, address) in changes {
+        list[place] = address;
+    }
+    list
+}
+
+/// 02, note 6: "Addresses are multiples of 4 below 1,048,576", in every place, and
+/// whatever the memory: it may be smaller.
+#[test]
+fn refusal_13_addresses() {
+    for place in 0..7 {
+        for address in [0, 4, 0x300, 0xffc, 0x1000, 0x1004, 0x8_0000, 0xf_fff8, 0xf_fffc] {
+            let case = with_vectors(&changed_list(&[(place, address)]));
+            assert_eq!(refusals(&case), (0, 0), "{address:x} at {place}");
+        }
+        for address in wrong_addresses() {
+            let case = with_vectors(&changed_list(&[(place, address)]));
+            assert_eq!(refusals(&case), (13, 13), "{address:x} at {place}");
+        }
+    }
+    // The bound is no memory's: the largest one's length is refused too.
+    let mut case = good(1, 1_048_576);
+    case.vectors[0] = 1_048_572;
+    assert_eq!(refusals(&case), (0, 0));
+    case.vectors[0] = 1_048_576;
+    assert_eq!(refusals(&case), (13, 13));
+}
+
+/// No multiples of 4, and addresses at and past 1,048,576.
+fn wrong_addresses() -> Vec<u32> {
+    let odd = [1, 2, 3, 0x201, 0x202, 0x203, 0x1001, 0xf_fffd, 0xf_fffe, 0xf_ffff];
+    let far = [0x10_0000, 0x10_0004, 0x10_0200, 0x20_0000, 0x8000_0000, 0x8000_0200, 0xffff_fffc];
+    let both = [0x10_0001, 0x10_0002, 0x8000_0003, 0xffff_ffff];
+    [odd.as_slice(), &far, &both].concat()
+}
+
+/// Two equal addresses at each two places, also where the rest is not the old list, and
+/// more than two.
+#[test]
+fn refusal_13_equal_addresses() {
+    assert_eq!(two_places().count(), 21);
+    for (first, later) in two_places() {
+        for address in [OLD[first], OLD[later], 0, 0xf_fffc, 0x2000] {
+            let list = changed_list(&[(first, address), (later, address)]);
+            assert_eq!(refusals(&with_vectors(&list)), (13, 13), "{first}, {later}");
+            // Four bytes apart they are two.
+            let list = changed_list(&[(first, address), (later, address ^ 4)]);
+            assert_eq!(refusals(&with_vectors(&list)), (0, 0), "{first}, {later}");
+        }
+    }
+    for list in [[0; 7], [0x200; 7], [4, 8, 4, 8, 4, 8, 4], [4, 8, 12, 16, 20, 24, 4]] {
+        assert_eq!(refusals(&with_vectors(&list)), (13, 13), "{list:x?}");
+    }
+    // In any order, up, down and side by side.
+    let up = [0, 4, 8, 12, 16, 20, 24];
+    let mut down = up;
+    down.reverse();
+    for list in [up, down, [24, 0, 20, 4, 16, 8, 12]] {
+        assert_eq!(refusals(&with_vectors(&list)), (0, 0), "{list:x?}");
+    }
+}
+
+/// A list of another length than seven breaks the rules too, good as its addresses are.
+#[test]
+fn refusal_13_lengths() {
+    let addresses: Vec<u32> = (0..92).map(|number| 0x100 + 4 * number).collect();
+    for length in (0..=16).chain([46, 92]) {
+        let refusal = if length == 7 { 0 } else { 13 };
+        let case = with_vectors(&addresses[..length]);
+        assert_eq!(refusals(&case), (refusal, refusal), "{length}");
+    }
+    // The old list cut short, with one more, and twice.
+    for list in [&OLD[..6], &[OLD.as_slice(), &[0x900]].concat(), &OLD.repeat(2)] {
+        assert_eq!(refusals(&with_vectors(list)), (13, 13), "{list:x?}");
+    }
+}
+
+/// The list is tested though nothing raises: by an empty schedule or halted cores.
+#[test]
+fn refusal_13_without_exceptions() {
+    for list in [changed_list(&[(3, 2)]), changed_list(&[(3, 0x200)]), vec![]] {
+        let mut case = with_vectors(&list);
+        case.set_schedule(vec![]);
+        assert_eq!(refusals(&case), (13, 13), "{list:x?}");
+        case.set_schedule(vec![0; 3]);
+        case.sheets[place::MODE] = 0;
+        assert_eq!(refusals(&case), (13, 13), "{list:x?}");
+    }
+}
+
+/// 1 to 5, 11 and 12 come before 13; 6 and 7 come after it, and the plain run, which has
+/// no table, has 13 too.
+#[test]
+fn refusal_13_among_the_others() {
+    let lists = [
+        changed_list(&[(0, 2)]),
+        changed_list(&[(6, 0x10_0000)]),
+        changed_list(&[(5, 0x200)]),
+        vec![],
+        OLD[..6].to_vec(),
+        [OLD.as_slice(), &[0x900]].concat(),
+    ];
+    for list in lists {
+        for other in [1, 2, 3, 4, 5, 11, 12] {
+            let mut case = with_vectors(&list);
+            break_by(&mut case, other);
+            assert_eq!(refusals(&case), (other, other), "{list:x?}");
+        }
+        for other in [6, 7] {
+            let mut case = with_vectors(&list);
+            break_by(&mut case, other);
+            assert_eq!(refusals(&case), (13, 13), "{list:x?}");
+        }
+    }
+}
+
 #[test]
 fn refusals_6_and_7_concern_the_fast_run_alone() {
     for entries in [0, 1, 1_023, 1_025, 4_096] {
@@ -339,6 +467,7 @@ fn break_by(case: &mut Case, refusal: u8) {
         5 => case.schedule[0] = 4,
         11 => case.levels.push(0),
         12 => case.limit = 2,
+        13 => case.vectors[6] = 0x200,
         6 => case.table.push(0),
         _ => case.table[5] = 1,
     }
@@ -346,11 +475,11 @@ fn break_by(case: &mut Case, refusal: u8) {
 
 #[test]
 fn refusals_are_tested_in_order() {
-    const ORDER: [u8; 9] = [1, 2, 3, 4, 5, 11, 12, 6, 7];
-    for set in 1u32..512 {
+    const ORDER: [u8; 10] = [1, 2, 3, 4, 5, 11, 12, 13, 6, 7];
+    for set in 1u32..1_024 {
         let mut case = good(2, 4_096);
         let met: Vec<u8> =
-            (0..9).filter(|place| set >> place & 1 == 1).map(|place| ORDER[place]).collect();
+            (0..10).filter(|place| set >> place & 1 == 1).map(|place| ORDER[place]).collect();
         for &refusal in &met {
             break_by(&mut case, refusal);
         }

@@ -11,6 +11,7 @@ use compare::isa::{self, Kind};
 use compare::rng::Rng;
 use compare::runs::Answer;
 use compare::state::{place, CY, DSX, F, IEE, OV, OVE, SM, TEE};
+use compare::vectors::OLD;
 
 const SR: u32 = 0x8001;
 
@@ -235,6 +236,7 @@ fn counts_of_sums() {
                 schedule: vec![0],
                 levels: vec![0],
                 limit: 0,
+                vectors: OLD.to_vec(),
                 table: vec![0; BYTES / 4],
             };
             case.set_word(0x100 / 4, sum_word(kind, 5, y));

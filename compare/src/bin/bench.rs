@@ -12,8 +12,9 @@ use compare::check::{self, Engine, BY_CACHE};
 use compare::engine::Archive;
 use compare::image::{self, Image};
 use compare::isa::{self, Insn, Kind};
-use compare::runs::SCHEDULE_MOST;
+use compare::runs::{Lent, SCHEDULE_MOST};
 use compare::state::{place, SHEET_WORDS};
+use compare::vectors::OLD;
 use std::hint::black_box;
 use std::time::{Duration, Instant};
 
@@ -104,6 +105,7 @@ fn case(words: &[u32], bytes: usize, cores: usize) -> Case {
         schedule: vec![],
         levels: vec![],
         limit: 0,
+        vectors: OLD.to_vec(),
         table: vec![0; bytes / 4],
     };
     for (index, &word) in words.iter().enumerate() {
@@ -183,7 +185,7 @@ fn compiled(name: &str, cores: usize) -> Work {
 /// The same with an interrupt once in `rare` entries, which a handler of two
 /// instructions serves.
 fn interrupted(name: &str, rare: usize) -> Work {
-    let image = Image::load(&image::folder(), name).with_handler();
+    let image = Image::load(&image::folder(), name).with_handler(OLD[6]);
     to_the_end(format!("{name}.c, interrupted"), image.interruptible(image::BYTES, 1), rare)
 }
 
@@ -295,12 +297,12 @@ fn time(work: &Work, engine: &dyn Engine, run: Run) -> Duration {
     if let Run::Fast { full: true } = run {
         case.table.copy_from_slice(&work.full_cache);
     }
-    let Case { memory, sheets, limit, table, .. } = &mut case;
     let start = Instant::now();
     for Call { schedule, levels } in &work.calls {
+        let lent = &mut Lent { schedule, levels, ..case.lent() };
         let answer = match run {
-            Run::Plain => engine.plain_run(memory, sheets, schedule, levels, *limit),
-            Run::Fast { .. } => engine.fast_run(memory, sheets, schedule, levels, *limit, table),
+            Run::Plain => engine.plain_run(lent),
+            Run::Fast { .. } => engine.fast_run(lent),
         };
         assert_eq!(answer >> 60, 0, "refused");
     }

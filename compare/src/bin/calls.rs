@@ -1,8 +1,8 @@
-//! Makes fast calls of the greatest length, one core, all lines low and no limit, on
-//! a compiled program and prints how many instructions they executed: `calls sieve 2`.
+//! Makes fast calls of the greatest length, one core, all lines low, no limit and the
+//! old vectors, on a compiled program and prints how many instructions they executed:
+//! `calls sieve 2`.
 //! `count` runs it under valgrind.
 
-use compare::cases::Case;
 use compare::check::Engine;
 use compare::engine::Archive;
 use compare::image::{self, Image};
@@ -16,8 +16,7 @@ fn main() {
     case.set_schedule(vec![0; SCHEDULE_MOST]);
     let mut executed = 0;
     for _ in 0..calls {
-        let Case { memory, sheets, schedule, levels, limit, table } = &mut case;
-        let answer = Archive.fast_run(memory, sheets, schedule, levels, *limit, table);
+        let answer = Archive.fast_run(&mut case.lent());
         assert_eq!(answer >> 60, 0, "refused");
         executed += answer & 0xfffff;
     }

@@ -2,6 +2,7 @@
 
 use super::show;
 use super::watch::Entry;
+use compare::cases::Case;
 use compare::exec::Cause;
 use compare::isa::Insn;
 use compare::isa::Kind::{self, *};
@@ -38,6 +39,8 @@ struct Past {
 pub struct Interrupts {
     met: BTreeMap<&'static str, u32>,
     past: [Past; 4],
+    /// The interrupts' vector of the case that is watched.
+    vector: u32,
     /// Entries that did otherwise than the note says.
     otherwise: u32,
 }
@@ -129,11 +132,11 @@ impl Met<'_> {
 
     /// Whether the entry did what the note says, as far as it tells whether an
     /// interrupt is taken and what that leaves.
-    fn as_noted(&self) -> bool {
+    fn as_noted(&self, vector: u32) -> bool {
         let Entry { before, after, .. } = self.entry;
         let due = self.latched != 0 && before.has(IEE) && !before.delay;
         let taken = Core {
-            pc: 0x800,
+            pc: vector,
             epcr: before.pc,
             esr: before.sr,
             sr: before.sr & !(TEE | IEE | OVE | DSX) | SM,
@@ -148,8 +151,8 @@ impl Met<'_> {
 
 impl Interrupts {
     /// Another case begins.
-    pub fn start(&mut self) {
-        self.past = Default::default();
+    pub fn start(&mut self, case: &Case) {
+        (self.past, self.vector) = (Default::default(), case.vectors[6]);
     }
 
     fn add<const N: usize>(&mut self, classes: [(&'static str, bool); N]) {
@@ -165,7 +168,7 @@ impl Interrupts {
             self.otherwise += u32::from(entry.after != entry.before);
             return;
         }
-        self.otherwise += u32::from(!met.as_noted());
+        self.otherwise += u32::from(!met.as_noted(self.vector));
         self.note_lines(&met);
         if met.taken {
             self.note_taken(&met);
@@ -319,11 +322,15 @@ impl Interrupts {
     pub fn expect(&self, what: &str, times: u32) {
         let listed = |class: &&str| LEAST.iter().any(|(listed, _)| listed == class);
         assert!(self.met.keys().all(listed), "{what}: every class has its least number");
+        let mut short = vec![];
         for (class, least) in LEAST {
             let (count, least) = (self.met.get(class).copied().unwrap_or(0), times * least);
             show(&format!("{what}, interrupts, {class}: {count}"));
-            assert!(count >= least, "{what}, interrupts, {class}: {count} of {least}");
+            if count < least {
+                short.push(format!("{class}: {count} of {least}"));
+            }
         }
+        assert!(short.is_empty(), "{what}, interrupts: {short:#?}");
         assert_eq!(self.otherwise, 0, "{what}: interrupts otherwise than note 4 says");
     }
 }

@@ -18,6 +18,8 @@ pub struct Limits {
     /// Of the case that is watched.
     limit: u32,
     bytes: u32,
+    /// Its vector of bus errors.
+    vector: u32,
     /// Accesses that did otherwise than the note says.
     otherwise: u32,
 }
@@ -164,22 +166,22 @@ impl Met<'_> {
     }
 
     /// Whether the access raised what it must, and left what a refused one must.
-    fn as_noted(&self) -> bool {
+    fn as_noted(&self, vector: u32) -> bool {
         let bus = self.aligned && (self.outside || self.refused());
         let due = match self.aligned {
             false => Some(Cause::Alignment),
             true => bus.then_some(Cause::Bus),
         };
-        self.entry.raised == due && (!self.refused() || self.left_as_noted())
+        self.entry.raised == due && (!self.refused() || self.left_as_noted(vector))
     }
 
     /// "writes no memory and clears no other core's link"; the table's entry stays
     /// too, but for that of the instruction itself, which is fetched.
-    fn left_as_noted(&self) -> bool {
+    fn left_as_noted(&self, vector: u32) -> bool {
         let Entry { who, before, after, .. } = self.entry;
         let (slot, address) = (before.delay, self.access.address);
         let taken = Core {
-            pc: 0x200,
+            pc: vector,
             delay: false,
             target: 0,
             epcr: if slot { before.pc.wrapping_sub(4) } else { before.pc },
@@ -210,6 +212,7 @@ impl Limits {
     /// Another case begins.
     pub fn start(&mut self, case: &Case) {
         (self.limit, self.bytes) = (case.limit, case.memory.len() as u32);
+        self.vector = case.vectors[0];
     }
 
     fn add<const N: usize>(&mut self, kind: Option<Kind>, classes: [(&'static str, bool); N]) {
@@ -248,7 +251,7 @@ impl Limits {
     }
 
     fn note_access(&mut self, met: &Met) {
-        self.otherwise += u32::from(!met.as_noted());
+        self.otherwise += u32::from(!met.as_noted(self.vector));
         let kind = met.insn.kind;
         if !is_store(kind) {
             let (below, next) =
@@ -337,13 +340,17 @@ impl Limits {
     pub fn expect(&self, what: &str, times: u32) {
         let listed = |class: &Class| LEAST.iter().any(|(listed, _)| listed == class);
         assert!(self.met.keys().all(listed), "{what}: every class has its least number");
+        let mut short = vec![];
         for ((kind, text), least) in LEAST {
             let (class, least) = ((*kind, *text), times * least);
             let count = self.met.get(&class).copied().unwrap_or(0);
             let kind = kind.map_or(String::new(), |kind| format!("{kind:?} "));
             show(&format!("{what}, limits, {kind}{text}: {count}"));
-            assert!(count >= least, "{what}, limits, {kind}{text}: {count} of {least}");
+            if count < least {
+                short.push(format!("{kind}{text}: {count} of {least}"));
+            }
         }
+        assert!(short.is_empty(), "{what}, limits: {short:#?}");
         assert_eq!(self.otherwise, 0, "{what}: accesses otherwise than note 5 says");
     }
 }

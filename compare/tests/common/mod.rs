@@ -3,6 +3,7 @@
 #![allow(dead_code)]
 
 pub mod fields;
+pub mod files;
 pub mod interrupts;
 pub mod limits;
 pub mod list;
@@ -10,16 +11,20 @@ pub mod products;
 pub mod registration;
 pub mod short;
 pub mod sums;
+pub mod vectors;
 pub mod watch;
 pub mod wrong_interrupt;
+pub mod wrong_lists;
 pub mod wrong_refusal;
 pub mod wrong_step;
+pub mod wrong_vector;
 
 use compare::check::{Engine, BY_CACHE, BY_HISTORY};
-use compare::exec::{Memory, Step};
+use compare::exec::{Board, Step};
 use compare::isa::{self, Insn, Kind};
 use compare::runs;
 use compare::state::Core;
+use compare::vectors::Vectors;
 use std::io::Write;
 use std::path::{Path, PathBuf};
 
@@ -41,12 +46,18 @@ pub struct Bench {
     pub memory: Vec<u8>,
     pub cores: Vec<Core>,
     pub limit: u32,
+    pub vectors: Vectors,
 }
 
 impl Bench {
     /// Cores just reset at address 100 (hexadecimal).
     pub fn new(cores: usize) -> Bench {
-        Bench { memory: vec![0; BYTES], cores: vec![Core::reset(0x100); cores], limit: 0 }
+        Bench {
+            memory: vec![0; BYTES],
+            cores: vec![Core::reset(0x100); cores],
+            limit: 0,
+            vectors: Vectors::OLD,
+        }
     }
 
     pub fn word(&self, address: usize) -> u32 {
@@ -66,14 +77,16 @@ impl Bench {
     }
 
     pub fn step(&mut self, who: usize) -> Step {
-        let memory = &mut Memory { bytes: &mut self.memory, limit: self.limit };
-        runs::plain_step(memory, &mut self.cores, who)
+        let (limit, vectors) = (self.limit, self.vectors);
+        let board = &mut Board { memory: &mut self.memory, limit, vectors };
+        runs::plain_step(board, &mut self.cores, who)
     }
 
     /// The step under the fast run, and whether it counts as reused.
     pub fn fast_step(&mut self, who: usize, table: &mut [u64]) -> (Step, bool) {
-        let memory = &mut Memory { bytes: &mut self.memory, limit: self.limit };
-        runs::fast_step(memory, &mut self.cores, who, table)
+        let (limit, vectors) = (self.limit, self.vectors);
+        let board = &mut Board { memory: &mut self.memory, limit, vectors };
+        runs::fast_step(board, &mut self.cores, who, table)
     }
 }
 
@@ -92,6 +105,11 @@ pub fn on_two(word: u32, sr: u32, x: u32, y: u32) -> (Bench, Step) {
     bench.cores[0].sr = sr;
     let step = bench.run(0, word);
     (bench, step)
+}
+
+/// Each two of a list's seven places, the earlier one first.
+pub fn two_places() -> impl Iterator<Item = (usize, usize)> {
+    (1..7).flat_map(|later| (0..later).map(move |first| (first, later)))
 }
 
 /// The compiled programs' generator: Marsaglia's xorshift32.

@@ -6,6 +6,7 @@ use compare::cases::Case;
 use compare::check::{self, Left};
 use compare::runs::Answer;
 use compare::state::{Core, CY, DSX, F, IEE, OV, OVE, SHEET_WORDS, TEE};
+use compare::vectors::OLD;
 
 pub const SR: u32 = 0x8001;
 pub const NOP: u32 = 0x1500_0000;
@@ -20,6 +21,7 @@ pub fn case(code: &[u32], levels: &[u32]) -> Case {
         schedule: vec![0; levels.len()],
         levels: levels.to_vec(),
         limit: 0,
+        vectors: OLD.to_vec(),
         table: vec![0; BYTES / 4],
     };
     put(&mut case, 0x100, code);

@@ -4,12 +4,14 @@ use super::interrupts::Interrupts;
 use super::limits::Limits;
 use super::products::Products;
 use super::sums::Sums;
+use super::vectors::Exceptions;
 use compare::cases::Case;
-use compare::exec::{self, Cause, Memory, Step};
+use compare::exec::{self, Board, Cause, Step};
 use compare::isa::Kind::{Cflush, Cinvalidate, Lhs, Lwa, Sh, Swa};
 use compare::isa::{self, Insn};
 use compare::runs;
 use compare::state::{Core, SHEET_WORDS};
+use compare::vectors::Vectors;
 
 /// One instruction with its core before and after it.
 pub struct Seen {
@@ -61,13 +63,14 @@ fn goal(core: &Core, insn: Insn) -> Option<u32> {
     access.then(|| core.get(insn.a).wrapping_add(insn.imm))
 }
 
-/// What notes 1, 2, 4 and 5 of document 02 tell apart.
+/// What notes 1, 2, 4, 5 and 6 of document 02 tell apart.
 #[derive(Default)]
 pub struct Counts {
     sums: Sums,
     products: Products,
     interrupts: Interrupts,
     limits: Limits,
+    exceptions: Exceptions,
 }
 
 /// What a run is on.
@@ -76,6 +79,7 @@ struct Running {
     cores: Vec<Core>,
     table: Vec<u64>,
     limit: u32,
+    vectors: Vectors,
 }
 
 impl Running {
@@ -85,6 +89,7 @@ impl Running {
             cores: case.sheets.chunks(SHEET_WORDS).map(Core::from_sheet).collect(),
             table: case.table.clone(),
             limit: case.limit,
+            vectors: Vectors::of_list(&case.vectors).expect("a good list"),
         }
     }
 
@@ -103,10 +108,11 @@ impl Running {
     }
 
     fn step(&mut self, who: usize, lines: u32) -> Step {
-        let interrupt = exec::interrupt(&mut self.cores[who], lines);
+        let (limit, vectors) = (self.limit, self.vectors);
+        let interrupt = exec::interrupt(&mut self.cores[who], &vectors, lines);
         interrupt.unwrap_or_else(|| {
-            let memory = &mut Memory { bytes: &mut self.memory, limit: self.limit };
-            runs::fast_step(memory, &mut self.cores, who, &mut self.table).0
+            let board = &mut Board { memory: &mut self.memory, limit, vectors };
+            runs::fast_step(board, &mut self.cores, who, &mut self.table).0
         })
     }
 
@@ -143,12 +149,14 @@ impl Counts {
     /// Counts the steps of a case's run.
     pub fn watch(&mut self, case: &Case) {
         let mut running = Running::start(case);
-        self.interrupts.start();
+        self.interrupts.start(case);
         self.limits.start(case);
+        self.exceptions.start(case);
         for (&who, &lines) in case.schedule.iter().zip(&case.levels) {
             let entry = running.take(usize::from(who), lines);
             self.interrupts.note(&entry);
             self.limits.note(&entry);
+            self.exceptions.note(&entry);
             let Entry { before, after, raised, .. } = entry;
             let fetched = before.running && raised != Some(Cause::Interrupt);
             if let Some(insn) = entry.insn.filter(|_| fetched) {
@@ -160,11 +168,12 @@ impl Counts {
     }
 
     /// Shows the counts, and stops if one of a note is too small; those of notes 4
-    /// and 5 are held to so many times their least numbers.
+    /// to 6 are held to so many times their least numbers.
     pub fn expect(&self, what: &str, of_sums: u32, of_products: u32, times: u32) {
         self.sums.expect(what, of_sums);
         self.products.expect(what, of_products);
         self.interrupts.expect(what, times);
         self.limits.expect(what, times);
+        self.exceptions.expect(what, times);
     }
 }

@@ -2,10 +2,11 @@
 
 use super::wrong_step::{read_sheets, write_sheets};
 use compare::check::{Codec, Engine, BY_CACHE};
-use compare::exec::{self, Cause, Exception, Memory};
+use compare::exec::{self, Board, Cause, Exception};
 use compare::isa::{self, Kind};
-use compare::runs::{self, Answer};
+use compare::runs::{self, Answer, Lent};
 use compare::state::{Core, IEE};
+use compare::vectors::Vectors;
 
 /// The rules one by one; each is right unless it is put otherwise.
 pub struct WrongInterrupt {
@@ -17,8 +18,8 @@ pub struct WrongInterrupt {
     /// Whether a running core takes an interrupt, given it as it was and as it is
     /// now.
     pub due: fn(&Core, &Core) -> bool,
-    /// Takes it.
-    pub enter: fn(&mut Core),
+    /// What it is taken with, spoiled, given the core before.
+    pub spoil: fn(&mut Core, &Core),
     /// What it counts as, given the table's entry at PC; 0 where there is none.
     pub count: fn(&mut Answer, u64),
     /// What it makes of that entry, given the form of the word there.
@@ -31,11 +32,6 @@ pub struct WrongInterrupt {
     pub fetches_first: bool,
 }
 
-/// Takes an interrupt, "with EPCR = PC and EEAR kept".
-pub fn enter(core: &mut Core) {
-    exec::take(core, Exception { cause: Cause::Interrupt, failing: None });
-}
-
 pub const RIGHT: WrongInterrupt = WrongInterrupt {
     name: "right",
     place: |entry, _| entry,
@@ -45,7 +41,7 @@ pub const RIGHT: WrongInterrupt = WrongInterrupt {
         }
     },
     due: |_, core| core.picsr != 0 && core.has(IEE) && !core.delay,
-    enter,
+    spoil: |_, _| {},
     count: |answer, _| {
         answer.executed += 1;
         answer.raised += 1;
@@ -58,7 +54,7 @@ pub const RIGHT: WrongInterrupt = WrongInterrupt {
 
 /// What an engine runs on.
 struct Running<'a> {
-    memory: Memory<'a>,
+    board: Board<'a>,
     cores: Vec<Core>,
     table: Option<&'a mut [u64]>,
     /// The kind that each core executed last.
@@ -69,10 +65,10 @@ struct Running<'a> {
 impl Running<'_> {
     /// The step that is no interrupt.
     fn step(&mut self, who: usize) {
-        let word = exec::fetch(self.memory.bytes, self.cores[who].pc);
+        let word = exec::fetch(self.board.memory, self.cores[who].pc);
         let (step, reused) = match self.table.as_deref_mut() {
-            None => (runs::plain_step(&mut self.memory, &mut self.cores, who), false),
-            Some(table) => runs::fast_step(&mut self.memory, &mut self.cores, who, table),
+            None => (runs::plain_step(&mut self.board, &mut self.cores, who), false),
+            Some(table) => runs::fast_step(&mut self.board, &mut self.cores, who, table),
         };
         self.last[who] = word.map(|word| isa::decode_insn(word).kind);
         self.answer.executed += 1;
@@ -82,10 +78,15 @@ impl Running<'_> {
 
     /// The interrupt.
     fn interrupt(&mut self, rules: &WrongInterrupt, who: usize) {
-        let pc = self.cores[who].pc;
-        (rules.enter)(&mut self.cores[who]);
+        let core = &mut self.cores[who];
+        let before = *core;
+        // "with EPCR = PC and EEAR kept"
+        let exception = Exception { cause: Cause::Interrupt, failing: None };
+        exec::take(core, &self.board.vectors, exception);
+        (rules.spoil)(core, &before);
         self.last[who] = None;
-        let form = exec::fetch(self.memory.bytes, pc).map(isa::decode);
+        let pc = before.pc;
+        let form = exec::fetch(self.board.memory, pc).map(isa::decode);
         match (self.table.as_deref_mut(), form) {
             (Some(table), Some(form)) => {
                 let entry = &mut table[pc as usize / 4];
@@ -105,7 +106,7 @@ impl WrongInterrupt {
             return;
         }
         let core = running.cores[who];
-        let outside = exec::fetch(running.memory.bytes, core.pc).is_none();
+        let outside = exec::fetch(running.board.memory, core.pc).is_none();
         let shielded = running.last[who].is_some_and(|kind| self.shields.contains(&kind));
         let kept_out = shielded || self.fetches_first && outside;
         if (self.due)(&before, &core) && !kept_out {
@@ -116,16 +117,17 @@ impl WrongInterrupt {
         (self.after)(&mut running.cores[who], lines);
     }
 
-    fn run(
-        &self,
-        memory: Memory,
-        sheets: &mut [u32],
-        schedule: &[u8],
-        levels: &[u32],
-        table: Option<&mut [u64]>,
-    ) -> u64 {
-        let (cores, answer) = (read_sheets(sheets), Answer::default());
-        let mut running = Running { memory, cores, table, last: [None; 4], answer };
+    /// The fast run, or without a table the plain one.
+    fn run(&self, lent: &mut Lent, fast: bool) -> u64 {
+        let Lent { memory, sheets, schedule, levels, limit, vectors, table } = lent.again();
+        let vectors = Vectors::of_list(vectors).expect("a good list");
+        let mut running = Running {
+            board: Board { memory, limit, vectors },
+            cores: read_sheets(sheets),
+            table: fast.then_some(table),
+            last: [None; 4],
+            answer: Answer::default(),
+        };
         for (index, &entry) in schedule.iter().enumerate() {
             let place = (self.place)(index, running.answer.executed as usize);
             let lines = levels.get(place).copied().unwrap_or(0);
@@ -149,25 +151,10 @@ impl Codec for WrongInterrupt {
 }
 
 impl Engine for WrongInterrupt {
-    fn plain_run(
-        &self,
-        memory: &mut [u8],
-        sheets: &mut [u32],
-        schedule: &[u8],
-        levels: &[u32],
-        limit: u32,
-    ) -> u64 {
-        self.run(Memory { bytes: memory, limit }, sheets, schedule, levels, None)
+    fn plain_run(&self, lent: &mut Lent) -> u64 {
+        self.run(lent, false)
     }
-    fn fast_run(
-        &self,
-        memory: &mut [u8],
-        sheets: &mut [u32],
-        schedule: &[u8],
-        levels: &[u32],
-        limit: u32,
-        table: &mut [u64],
-    ) -> u64 {
-        self.run(Memory { bytes: memory, limit }, sheets, schedule, levels, Some(table))
+    fn fast_run(&self, lent: &mut Lent) -> u64 {
+        self.run(lent, true)
     }
 }

@@ -1,8 +1,9 @@
-//! Engines that turn levels or limits back wrongly.
+//! Engines that turn levels, limits or lists of vectors back wrongly.
 
 use compare::battery::Pair;
 use compare::check::{Codec, Engine, BY_CACHE, BY_HISTORY};
-use compare::runs::{self, Answer};
+use compare::runs::{self, Answer, Lent};
+use compare::vectors::OLD;
 
 /// What an engine does with what it is lent.
 pub enum Turn {
@@ -12,17 +13,21 @@ pub enum Turn {
     With(Vec<u32>),
     /// Runs with another limit.
     HeldTo(u32),
-    /// Runs without a limit, and refuses then.
+    /// Runs with another list of vectors.
+    By(Vec<u32>),
+    /// Runs without a limit and with the old vectors, and refuses then.
     RunAndRefuse(u8),
 }
 
 /// What is in question, and what is due.
-pub struct Lent<'a> {
+pub struct Asked<'a> {
     /// Bytes of memory.
     pub bytes: usize,
+    pub sheets: &'a [u32],
     pub entries: usize,
     pub levels: &'a [u32],
     pub limit: u32,
+    pub vectors: &'a [u32],
     /// It is the fast run.
     pub fast: bool,
     /// The refusal due, or 0.
@@ -31,51 +36,53 @@ pub struct Lent<'a> {
     pub with_levels: u8,
     /// The refusal due if the limit were 0.
     pub with_limit: u8,
+    /// The refusal due if the vectors were the old ones.
+    pub with_vectors: u8,
 }
 
-/// An engine that is wrong in which levels and limits it turns back.
+/// An engine that is wrong in which levels, limits and vectors it turns back.
 pub struct WrongRefusal {
     pub name: &'static str,
-    pub turn: fn(&Lent) -> Turn,
+    pub turn: fn(&Asked) -> Turn,
 }
 
-/// What both runs are lent and only read, and whether it is for the fast one.
-struct Read<'a> {
-    schedule: &'a [u8],
-    levels: &'a [u32],
-    limit: u32,
-    fast: bool,
+/// As a constant, so that a list of them reads like a table.
+pub const fn turning(name: &'static str, turn: fn(&Asked) -> Turn) -> WrongRefusal {
+    WrongRefusal { name, turn }
 }
 
 impl WrongRefusal {
-    /// Refuses, or runs with the levels and the limit that it takes.
-    fn around(
-        &self,
-        memory: &mut [u8],
-        read: Read,
-        refusal: impl Fn(&[u8], &[u32], u32) -> u8,
-        run: impl FnOnce(&mut [u8], &[u32], u32) -> u64,
-    ) -> u64 {
-        let Read { schedule, levels, limit, fast } = read;
-        let lent = Lent {
-            bytes: memory.len(),
-            entries: schedule.len(),
-            levels,
-            limit,
+    /// What the engine does with what a run is lent.
+    fn turn(&self, lent: &mut Lent, fast: bool, refusal: fn(&Lent) -> u8) -> Turn {
+        let low = vec![0; lent.schedule.len()];
+        let asked = Asked {
+            with_levels: refusal(&Lent { levels: &low, ..lent.again() }),
+            with_limit: refusal(&Lent { limit: 0, ..lent.again() }),
+            with_vectors: refusal(&Lent { vectors: &OLD, ..lent.again() }),
+            due: refusal(lent),
+            bytes: lent.memory.len(),
+            sheets: lent.sheets,
+            entries: lent.schedule.len(),
+            levels: lent.levels,
+            limit: lent.limit,
+            vectors: lent.vectors,
             fast,
-            due: refusal(memory, levels, limit),
-            with_levels: refusal(memory, &vec![0; schedule.len()], limit),
-            with_limit: refusal(memory, levels, 0),
         };
-        match (self.turn)(&lent) {
-            Turn::Right => run(memory, levels, limit),
-            Turn::Refuse(refusal) => Answer::refused(refusal).pack(),
-            Turn::With(levels) => run(memory, &levels, limit),
-            Turn::HeldTo(limit) => run(memory, levels, limit),
-            Turn::RunAndRefuse(refusal) => {
-                run(memory, levels, 0);
-                Answer::refused(refusal).pack()
-            }
+        (self.turn)(&asked)
+    }
+}
+
+/// Refuses, or runs with what is taken.
+fn run_after(turn: Turn, lent: &mut Lent, run: fn(&mut Lent) -> u64) -> u64 {
+    match turn {
+        Turn::Right => run(lent),
+        Turn::Refuse(refusal) => Answer::refused(refusal).pack(),
+        Turn::With(levels) => run(&mut Lent { levels: &levels, ..lent.again() }),
+        Turn::HeldTo(limit) => run(&mut Lent { limit, ..lent.again() }),
+        Turn::By(vectors) => run(&mut Lent { vectors: &vectors, ..lent.again() }),
+        Turn::RunAndRefuse(refusal) => {
+            run(&mut Lent { limit: 0, vectors: &OLD, ..lent.again() });
+            Answer::refused(refusal).pack()
         }
     }
 }
@@ -93,42 +100,13 @@ impl Codec for WrongRefusal {
 }
 
 impl Engine for WrongRefusal {
-    fn plain_run(
-        &self,
-        memory: &mut [u8],
-        sheets: &mut [u32],
-        schedule: &[u8],
-        levels: &[u32],
-        limit: u32,
-    ) -> u64 {
-        let kept = sheets.to_vec();
-        self.around(
-            memory,
-            Read { schedule, levels, limit, fast: false },
-            |memory, levels, limit| runs::plain_refusal(memory, &kept, schedule, levels, limit),
-            |memory, levels, limit| BY_CACHE.plain_run(memory, sheets, schedule, levels, limit),
-        )
+    fn plain_run(&self, lent: &mut Lent) -> u64 {
+        let turn = self.turn(lent, false, runs::plain_refusal);
+        run_after(turn, lent, |lent| BY_CACHE.plain_run(lent))
     }
-    fn fast_run(
-        &self,
-        memory: &mut [u8],
-        sheets: &mut [u32],
-        schedule: &[u8],
-        levels: &[u32],
-        limit: u32,
-        table: &mut [u64],
-    ) -> u64 {
-        let kept = (sheets.to_vec(), table.to_vec());
-        self.around(
-            memory,
-            Read { schedule, levels, limit, fast: true },
-            |memory, levels, limit| {
-                runs::fast_refusal(memory, &kept.0, schedule, levels, limit, &kept.1)
-            },
-            |memory, levels, limit| {
-                BY_CACHE.fast_run(memory, sheets, schedule, levels, limit, table)
-            },
-        )
+    fn fast_run(&self, lent: &mut Lent) -> u64 {
+        let turn = self.turn(lent, true, runs::fast_refusal);
+        run_after(turn, lent, |lent| BY_CACHE.fast_run(lent))
     }
 }
 

@@ -3,10 +3,11 @@
 use compare::battery::Pair;
 use compare::check::{Codec, Engine, BY_CACHE, BY_HISTORY};
 use compare::dump;
-use compare::exec::{self, Cause, Exception, Memory};
+use compare::exec::{self, Board, Cause, Exception};
 use compare::isa::{self, Insn, Kind};
-use compare::runs::{self, Answer};
+use compare::runs::{self, Answer, Lent};
 use compare::state::{Core, CY, OV, SHEET_WORDS};
+use compare::vectors::Vectors;
 
 /// A step that is about to be taken.
 pub struct Attempt<'a> {
@@ -37,11 +38,12 @@ pub struct Taken<'a> {
     pub after: Core,
     pub raised: bool,
     /// What it left besides.
-    pub bytes: &'a mut [u8],
+    pub memory: &'a mut [u8],
     pub cores: &'a mut [Core],
     pub table: Option<&'a mut [u64]>,
-    /// The run's limit.
+    /// The run's limit and vectors.
     pub limit: u32,
+    pub vectors: Vectors,
 }
 
 impl Taken<'_> {
@@ -53,7 +55,8 @@ impl Taken<'_> {
     /// Ends it in a bus error instead.
     pub fn fail(&mut self, failing: u32) {
         self.after = self.before;
-        exec::take(&mut self.after, Exception { cause: Cause::Bus, failing: Some(failing) });
+        let exception = Exception { cause: Cause::Bus, failing: Some(failing) };
+        exec::take(&mut self.after, &self.vectors, exception);
         self.raised = true;
     }
 
@@ -63,7 +66,8 @@ impl Taken<'_> {
         let Core { regs, machi, maclo, .. } = self.after;
         let mut core = Core { regs, sr, machi, maclo, ..self.before };
         if raised {
-            exec::take(&mut core, Exception { cause: Cause::Range, failing: None });
+            let exception = Exception { cause: Cause::Range, failing: None };
+            exec::take(&mut core, &self.vectors, exception);
         } else {
             exec::advance(&mut core);
         }
@@ -150,31 +154,31 @@ impl WrongStep {
     /// are right.
     fn step(
         &self,
-        memory: &mut Memory,
+        board: &mut Board,
         cores: &mut [Core],
         (who, lines): (usize, u32),
         mut table: Option<&mut [u64]>,
     ) -> (bool, bool) {
-        if exec::interrupt(&mut cores[who], lines).is_some() {
+        if exec::interrupt(&mut cores[who], &board.vectors, lines).is_some() {
             return (true, false);
         }
-        let (before, limit, fast) = (cores[who], memory.limit, table.is_some());
-        let insn = exec::fetch(memory.bytes, before.pc).map(isa::decode_insn);
+        let (before, limit, fast) = (cores[who], board.limit, table.is_some());
+        let insn = exec::fetch(board.memory, before.pc).map(isa::decode_insn);
         let insn = insn.filter(|insn| self.of.contains(&insn.kind));
         if let Some(insn) = insn {
-            memory.limit = (self.limit)(&Attempt { insn, core: &before, who, limit, fast });
+            board.limit = (self.limit)(&Attempt { insn, core: &before, who, limit, fast });
         }
         let (step, reused) = match table.as_deref_mut() {
-            None => (runs::plain_step(memory, cores, who), false),
-            Some(table) => runs::fast_step(memory, cores, who, table),
+            None => (runs::plain_step(board, cores, who), false),
+            Some(table) => runs::fast_step(board, cores, who, table),
         };
-        memory.limit = limit;
+        board.limit = limit;
         let (after, raised) = (cores[who], step.raised.is_some());
         let Some(insn) = insn else {
             return (raised, reused);
         };
-        let bytes = &mut *memory.bytes;
-        let mut taken = Taken { insn, before, after, raised, bytes, cores, table, limit };
+        let (memory, vectors) = (&mut *board.memory, board.vectors);
+        let mut taken = Taken { insn, before, after, raised, memory, cores, table, limit, vectors };
         (self.spoil)(&mut taken);
         let Taken { after, raised, .. } = taken;
         cores[who] = after;
@@ -182,21 +186,18 @@ impl WrongStep {
     }
 
     /// The fast run, or without a table the plain one.
-    fn run(
-        &self,
-        memory: &mut Memory,
-        sheets: &mut [u32],
-        schedule: &[u8],
-        levels: &[u32],
-        mut table: Option<&mut [u64]>,
-    ) -> u64 {
+    fn run(&self, lent: &mut Lent, fast: bool) -> u64 {
+        let Lent { memory, sheets, schedule, levels, limit, vectors, table } = lent.again();
+        let vectors = Vectors::of_list(vectors).expect("a good list");
+        let board = &mut Board { memory, limit, vectors };
+        let mut table = fast.then_some(table);
         let mut answer = Answer::default();
         let mut cores = read_sheets(sheets);
         for (&entry, &lines) in schedule.iter().zip(levels) {
             let who = usize::from(entry);
             if cores[who].running {
                 let place = (who, lines);
-                let (raised, reused) = self.step(memory, &mut cores, place, table.as_deref_mut());
+                let (raised, reused) = self.step(board, &mut cores, place, table.as_deref_mut());
                 answer.executed += 1;
                 answer.raised += u32::from(raised);
                 answer.reused += u32::from(reused);
@@ -220,26 +221,11 @@ impl Codec for WrongStep {
 }
 
 impl Engine for WrongStep {
-    fn plain_run(
-        &self,
-        memory: &mut [u8],
-        sheets: &mut [u32],
-        schedule: &[u8],
-        levels: &[u32],
-        limit: u32,
-    ) -> u64 {
-        self.run(&mut Memory { bytes: memory, limit }, sheets, schedule, levels, None)
+    fn plain_run(&self, lent: &mut Lent) -> u64 {
+        self.run(lent, false)
     }
-    fn fast_run(
-        &self,
-        memory: &mut [u8],
-        sheets: &mut [u32],
-        schedule: &[u8],
-        levels: &[u32],
-        limit: u32,
-        table: &mut [u64],
-    ) -> u64 {
-        self.run(&mut Memory { bytes: memory, limit }, sheets, schedule, levels, Some(table))
+    fn fast_run(&self, lent: &mut Lent) -> u64 {
+        self.run(lent, true)
     }
 }
 

@@ -20,7 +20,6 @@ use Rattle.effect.specs.State.{epcrAt, eearAt, esrAt, machiAt, macloAt, picmrAt
 use Rattle.effect.specs.Effect.{noStore, inSlot, advances, halting, faults, raisesRange, jumping, returning, linking, saving, unlinking, accumulating, readingAccumulator}
 use Rattle.effect.specs.declared.types.Inputs.{Inputs}
 use Rattle.effect.specs.declared.types.Store.{Store}
-use Rattle.effect.specs.declared.types.Board.{Board}
 use Rattle.effect.specs.declared.types.Effect.{Effect}
 
 -- v goes to rD
@@ -142,15 +141,15 @@ storing x n = record { width = n; address = effectiveAddress x; value = x .b }
 
 -- Stores and l.swa. Document 02, note 5: "Any store or l.swa reaching below it raises bus error after alignment and before the link test, writes no memory and
 -- clears no other core's link." (An exception has no store, and the link is looked at by what the test grants.)
-unfoldable pub store : Board → Inputs → ℕ → ℕ → Effect
-store board x len n = reaches x n (board .limit) len (saving x (storing x n))
+unfoldable pub store : ℕ → Inputs → ℕ → ℕ → Effect
+store limit x len n = reaches x n limit len (saving x (storing x n))
 
 -- "l.swa, after both checks, stores and sets F if the link is to that word, else clears F; it clears its own link either way."
 abbrev pub linked : Inputs → Bool
 linked x = eqb (x .link .held) 1 && eqb (x .link .address) (effectiveAddress x)
 
-unfoldable pub storeConditional : Board → Inputs → ℕ → Effect
-storeConditional board x len = reaches x 4 (board .limit) len (unlinking x (bit (linked x)) (if linked x then storing x 4 else noStore))
+unfoldable pub storeConditional : ℕ → Inputs → ℕ → Effect
+storeConditional limit x len = reaches x 4 limit len (unlinking x (bit (linked x)) (if linked x then storing x 4 else noStore))
 
 -- "p.* tests its one byte and does no more."
 unfoldable pub touch : Inputs → ℕ → Effect
@@ -160,14 +159,14 @@ touch x len = reaches x 1 noLimit len (nothing x)
 
 -- "17 SR, 32 EPCR, 48 EEAR, 64 ESR; 128 core number and 129 core count are read-only. Others read 0; writes are ignored." Document 02, note 2, of MACHI
 -- and MACLO: "their SPRs are 2802 and 2801 hexadecimal." Note 4: "PICMR is SPR 4800 hexadecimal, .. PICSR is 4802"
-unfoldable pub specialRegister : Board → Inputs → ℕ → ℕ
-specialRegister board x n =
+unfoldable pub specialRegister : ℕ → Inputs → ℕ → ℕ
+specialRegister cores x n =
     if eqb n 17 then x .sr else
     if eqb n 32 then x .epcr else
     if eqb n 48 then x .eear else
     if eqb n 64 then x .esr else
     if eqb n 128 then x .core else
-    if eqb n 129 then board .cores else
+    if eqb n 129 then cores else
     if eqb n 0x2801 then x .accumulator .low else
     if eqb n 0x2802 then x .accumulator .high else
     if eqb n 0x4800 then x .picmr else

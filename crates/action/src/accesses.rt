@@ -1,4 +1,4 @@
-// Loads, stores and the cache instructions: each tests its access first. Stores and l.swa are held against the board's limit.
+// Loads, stores and the cache instructions: each tests its access first. Stores and l.swa are held against the limit of what is read-only.
 ghost use mathlib.Core.Path.{_≡_};
 ghost use Rattle.bits.specs.Choice.{if_then_else_};
 ghost use Rattle.bits.specs.Word.{bit};
@@ -9,7 +9,6 @@ ghost use Rattle.action.specs.Operations.{effectiveAddress, load as load
 use crate::completed;
 use crate::raised;
 use effect::types::Action;
-use effect::types::Board;
 use effect::types::Inputs;
 use effect::types::Linked;
 use effect::types::Store;
@@ -63,12 +62,12 @@ fn storing(x: Inputs, width: u32) -> Store
     }
 }
 
-pub fn store(board: Board, x: Inputs, len: usize, width: u32) -> Action
+pub fn store(limit: u32, x: Inputs, len: usize, width: u32) -> Action
     requires { ⌜ Width width ⌝ }
-    ensures { λ r. ⌜ effectBy x r ≡ storeOf board x len width ⌝ }
+    ensures { λ r. ⌜ effectBy x r ≡ storeOf limit x len width ⌝ }
 {
     let at = address(x);
-    match memory::test(board.limit, len, at, width) {
+    match memory::test(limit, len, at, width) {
         Access::Granted => Action::Save(storing(x, width)),
         Access::Fault(cause) => raised::fault(cause, at),
     }
@@ -95,11 +94,11 @@ fn conditional(x: Inputs) -> Action
 }
 
 // l.swa.
-pub fn store_conditional(board: Board, x: Inputs, len: usize) -> Action
-    ensures { λ r. ⌜ effectBy x r ≡ storeConditional board x len ⌝ }
+pub fn store_conditional(limit: u32, x: Inputs, len: usize) -> Action
+    ensures { λ r. ⌜ effectBy x r ≡ storeConditional limit x len ⌝ }
 {
     let at = address(x);
-    match memory::test(board.limit, len, at, 4) {
+    match memory::test(limit, len, at, 4) {
         Access::Granted => conditional(x),
         Access::Fault(cause) => raised::fault(cause, at),
     }

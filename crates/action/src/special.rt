@@ -4,12 +4,11 @@ ghost use Rattle.effect.specs.Inner.{goesOn};
 ghost use Rattle.action.specs.Operations.{specialRegister, setsSpecialRegister};
 use crate::completed;
 use effect::state;
-use effect::types::Board;
 use effect::types::Inputs;
 use effect::types::Written;
 
-pub fn read(board: Board, x: Inputs, n: u32) -> u32
-    ensures { λ r. ⌜ r ≡ specialRegister board x n ⌝ }
+pub fn read(cores: u32, x: Inputs, n: u32) -> u32
+    ensures { λ r. ⌜ r ≡ specialRegister cores x n ⌝ }
 {
     match n {
         17 => x.sr,
@@ -17,7 +16,7 @@ pub fn read(board: Board, x: Inputs, n: u32) -> u32
         48 => x.eear,
         64 => x.esr,
         128 => x.core,
-        129 => board.cores,
+        129 => cores,
         0x2801 => x.accumulator.low,
         0x2802 => x.accumulator.high,
         0x4800 => x.picmr,

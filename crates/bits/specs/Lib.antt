@@ -1,3 +1,4 @@
--- The definitions that those of the instruction set and of the run are written with: choice, fields of a word, signed numbers.
+-- The definitions that those of the instruction set and of the run are written with: choice, tests, fields of a word, signed numbers.
 pub mod Choice
+pub mod Every
 pub mod Word

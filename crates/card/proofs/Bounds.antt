@@ -23,7 +23,7 @@ use Rattle.card.specs.Inner.{parsedBy, left}
 use Rattle.card.specs.declared.Job as code
 use Rattle.card.proofs.Whole.{by-place}
 
-never : {A B : Type 0} {f n : ℕ} {j : B} → refused f n ≡ good j → A
+pub never : {A B : Type 0} {f n : ℕ} {j : B} → refused f n ≡ good j → A
 never e = absurd (let z : _≡_ {A = ℕ} 0 1 = cc in omega arith)
 
 no-value : {A B : Type 0} {f : ℕ} {v : B} → fault f ≡ value v → A
@@ -37,10 +37,10 @@ by-line : {A P : Type 0} (key : String) (f : List ℕ → Field A) (card : List 
     → P
 by-line {P = P} key f card i k {j} e go = by-place (λ s. onward (suc i) s k ≡ good j → P) (ascii key) f card (afterLines card i) (λ m e. never e) go e
 
-record Within (low high m v : ℕ) : Type 0 where
-  above : low ≤ v
-  below : v ≤ high
-  multiple : v % m ≡ 0
+pub record Within (low high m v : ℕ) : Type 0 where
+  pub above : low ≤ v
+  pub below : v ≤ high
+  pub multiple : v % m ≡ 0
 
 limited-tests : (low high m v w : ℕ) (a b c : Bool) → leb low v ≡ a → leb v high ≡ b → eqb (v % m) 0 ≡ c
     → _≡_ {A = Field ℕ} (if (a && b) && c then value v else fault valueFault) (value w) → Within low high m w
@@ -52,7 +52,7 @@ limited-tests low high m v w true true false p q r e = no-value e
 limited-tests low high m v w true false c p q r e = no-value e
 limited-tests low high m v w false b c p q r e = no-value e
 
-limited-value : (low high m : ℕ) (p : Parsed) {w : ℕ} → limited low high m p ≡ value w → Within low high m w
+pub limited-value : (low high m : ℕ) (p : Parsed) {w : ℕ} → limited low high m p ≡ value w → Within low high m w
 limited-value low high m (Number v) {w} e = limited-tests low high m v w (leb low v) (leb v high) (eqb (v % m) 0) refl refl refl e
 limited-value low high m Nothing e = no-value e
 
@@ -104,7 +104,7 @@ unfolding wordLines wordsFrom
 by-words zero l k e go = go [] l refl refl e
 by-words (suc n) l k e go = by-word n (l .next) (first (ascii "w=") word (l .rest)) k e (λ l k. by-words n l k) go
 
-none-good : (ls : List Line) (n : ℕ) {v : Verdict Job} {j : Job} → noneLeft ls n v ≡ good j → v ≡ good j
+pub none-good : {A : Type 0} (ls : List Line) (n : ℕ) {v : Verdict A} {j : A} → noneLeft ls n v ≡ good j → v ≡ good j
 none-good [] n e = e
 none-good (l ∷ ls) n e = never e
 

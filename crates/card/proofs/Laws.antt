@@ -6,9 +6,10 @@ use mathlib.Core.List.{List, [], _∷_, map}
 use native.Mathlib.Numerals.{add-one}
 use native.Mathlib.Omega.{arith}
 use native.Mathlib.Nat.{not-suc-le-zero}
-use lib.Dec.{eqb}
+use lib.Dec.{T, eqb}
 use lib.ListN.{length, take, drop, getD, drop-of-length-le, length-drop, length-map}
 use lib.Seq.{drop-cons, length-take-le}
+use Rattle.bits.proofs.Tests.{and-left, and-right}
 use Rattle.text.specs.Ascii.{ascii}
 use Rattle.text.specs.Digits.{digit}
 use Rattle.text.specs.Lines.{Line, ended, cut, onto, lines, entryOf}
@@ -72,6 +73,11 @@ module _ (card : List ℕ) (p : Progress) where
   pub schedule-bad : {n : ℕ} → first (ascii "schedule=") (schedule (p .job .cores)) (lines (drop (p .at) card)) ≡ stop n → refused n (p .line) ≡ scheduleLine card p
   schedule-bad t = rw t
 
+pub every-getD : (f : ℕ → Bool) (s : List ℕ) (i : ℕ) → i < length s → T (every f s) → T (f (getD s i 0))
+every-getD f [] i h t = absurd (not-suc-le-zero h)
+every-getD f (x ∷ s) zero h t = and-left (f x) (every f s) t
+every-getD f (x ∷ s) (suc i) h t = every-getD f s i (omega arith) (and-right (f x) (every f s) t)
+
 module _ (f : ℕ → Bool) (i : ℕ) (t : List ℕ) where
   pub every-at : i < length t → every f (drop i t) ≡ (f (getD t i 0) && every f (drop (i + 1) t))
   every-at h = rw (add-one, drop-cons t i 0)
@@ -114,10 +120,10 @@ module _ {B : Type 0} (n : ℕ) (v : Verdict B) where
   over (b ∷ s) h = over-cons b s (eqb b 10) refl
 
   module _ (card : List ℕ) (at : ℕ) where
-    left-over : at < length card → noneLeft (lines (drop at card)) n v ≡ refused formFault n
+    pub left-over : at < length card → noneLeft (lines (drop at card)) n v ≡ refused formFault n
     left-over h = over (drop at card) (simp length-drop (omega arith))
 
-    none-left : length card ≤ at → noneLeft (lines (drop at card)) n v ≡ v
+    pub none-left : length card ≤ at → noneLeft (lines (drop at card)) n v ≡ v
     unfolding lines
     none-left h = rw (drop-of-length-le card h)
 

@@ -8,18 +8,19 @@ use Rattle.text.specs.Ascii.{ascii}
 use Rattle.text.specs.Digits.{digit}
 use Rattle.text.specs.Lines.{Line, lines}
 use Rattle.text.specs.Inner.{afterLines}
-use Rattle.card.specs.Card.{Step, step, stop, first, word, every, Job, Verdict, good, refused, imageFault, formFault, valueFault, maxCores, minMemory, maxMemory, maxSteps, maxDigits}
+use Rattle.card.specs.Card.{Step, step, stop, first, word, every, Job, Verdict, good, refused, imageFault, formFault, valueFault, repeatFault, maxCores, minMemory, maxMemory, maxSteps, maxDigits}
 use Rattle.card.specs.declared.Cause.{Cause}
-use Rattle.card.specs.declared.Cause.the-variants.{Image, Form, Limit}
+use Rattle.card.specs.declared.Cause.the-variants.{Image, Form, Limit, Repeat}
 use Rattle.card.specs.declared.Job as code
 use Rattle.card.specs.declared.Reading.{Reading}
 use Rattle.card.specs.declared.Reading.the-variants.{Good, Bad}
 
--- document 01's number of each cause
+-- the number of each cause
 abbrev pub refusal : Cause → ℕ
 refusal Image = imageFault
 refusal Form = formFault
 refusal Limit = valueFault
+refusal Repeat = repeatFault
 
 -- an answer with its cause's number
 abbrev pub told : Reading → Verdict code.Job

@@ -25,6 +25,10 @@ formFault = 9
 abbrev pub valueFault : ℕ
 valueFault = 10
 
+-- 13, of the file of vectors alone: document 02, note 6, "two equal addresses"
+abbrev pub repeatFault : ℕ
+repeatFault = 13
+
 -- the limits that the lines below cite
 abbrev pub maxCard : ℕ
 maxCard = 65536
@@ -163,6 +167,9 @@ content left =
     noneLeft (left .rest) (left .next)
     (good (record { cores = cores; memory = memory; entry = entry; steps = steps; schedule = schedule; words = words })))))))))
 
--- "then the card's length, then its lines"
+-- "then the card's length, then its lines": what the lines of a text say by f
+abbrev pub whole : {A : Type 0} → List ℕ → (Left → Verdict A) → Verdict A
+whole text f = if leb (length text) maxCard then f (record { next = 1; rest = lines text }) else refused formFault 0
+
 unfoldable pub cardSays : List ℕ → Verdict Job
-cardSays card = if leb (length card) maxCard then content (record { next = 1; rest = lines card }) else refused formFault 0
+cardSays card = whole card content

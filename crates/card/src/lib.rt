@@ -10,7 +10,7 @@ ghost use Rattle.card.specs.Inner.{parsedBy, numberText, fieldIn, Next, 
 use text::Found;
 use text::Parsed;
 
-const MAX_CARD: usize = 65536;
+pub const MAX_CARD: usize = 65536;
 
 pub const MAX_CORES: u32 = 4;
 
@@ -27,14 +27,16 @@ const MAX_WORD: u32 = 0xffffffff;
 // The number of the first w line.
 const WORD_LINES: u32 = 7;
 
-// Why a card is refused, document 01's 1, 9 and 10: the image's length, a line's form, a value's limits.
+// Why a card or a file of vectors is refused, document 01's 1, 9 and 10: the image's length, a line's form, a value's limits.
 pub enum Cause {
     Image,
     Form,
     Limit,
+    // The file of vectors alone, document 02's 13: an address that repeats one above it.
+    Repeat,
 }
 
-// Document 01's number of a cause.
+// The number of a cause.
 pub fn number(cause: Cause) -> u32
     ensures { λ r. ⌜ r ≡ refusal cause ⌝ }
 {
@@ -42,6 +44,7 @@ pub fn number(cause: Cause) -> u32
         Cause::Image => 1,
         Cause::Form => 9,
         Cause::Limit => 10,
+        Cause::Repeat => 13,
     }
 }
 
@@ -333,7 +336,7 @@ const WORD: Format = Format {
 };
 
 // The number on the line at a place.
-fn number_at(card: &[u8], at: usize, key: &[u8], form: Format) -> Field
+pub fn number_at(card: &[u8], at: usize, key: &[u8], form: Format) -> Field
     requires { ⌜ 0 < form .multiple ⌝ }
     ensures { λ r. ⌜ (stepIn (now (card .entry)) r ≡ first (now (key .entry)) (numberText form) (lines (drop at (now (card .entry))))) × (Ahead (now (card .entry)) at r) ⌝ }
 {

@@ -50,19 +50,19 @@ module _ {e e′ : Effect} (p : e ≡ e′) where
   pub fits-as : {len : ℕ} → Fits len e′ → Fits len e
   fits-as {len} h = subst (Fits len) (sym p) h
 
-  pub owned-as : {own own′ : List ℕ} {o : Outcome} → Owned own e own′ o → Owned own e′ own′ o
-  owned-as {own} {own′} {o} h = subst (λ (f : Effect). Owned own f own′ o) p h
+  pub owned-as : {vectors own own′ : List ℕ} {o : Outcome} → Owned vectors own e own′ o → Owned vectors own e′ own′ o
+  owned-as {vectors} {own} {own′} {o} h = subst (λ (f : Effect). Owned vectors own f own′ o) p h
 
-  pub performed-as : {mem own mem′ own′ : List ℕ} {r : Done} → Performed mem own e mem′ own′ r → Performed mem own e′ mem′ own′ r
-  performed-as {mem} {own} {mem′} {own′} {r} h = subst (λ (f : Effect). Performed mem own f mem′ own′ r) p h
+  pub performed-as : {vectors mem own mem′ own′ : List ℕ} {r : Done} → Performed vectors mem own e mem′ own′ r → Performed vectors mem own e′ mem′ own′ r
+  performed-as {vectors} {mem} {own} {mem′} {own′} {r} h = subst (λ (f : Effect). Performed vectors mem own f mem′ own′ r) p h
 
 -- the core's own state is committed, and memory with it
-module _ {own own′ : List ℕ} {e : Effect} {o : Outcome} (h : Owned own e own′ o) where
-  pub performed : {mem mem′ : List ℕ} → mem′ ≡ memoryAfter mem e → {d : Done} → d ≡ tells o (e .store) → Performed mem own e mem′ own′ d
+module _ {vectors own own′ : List ℕ} {e : Effect} {o : Outcome} (h : Owned vectors own e own′ o) where
+  pub performed : {mem mem′ : List ℕ} → mem′ ≡ memoryAfter mem e → {d : Done} → d ≡ tells o (e .store) → Performed vectors mem own e mem′ own′ d
   performed m {d} q = record { memory = m; left = h .left; done = q ∙ ap (λ (o : Outcome). tells o (e .store)) (h .ended) }
 
   -- an effect that stores nothing leaves every memory as it is
-  pub kept : e .store ≡ noStore → (mem : List ℕ) → Performed mem own e mem own′ (tells o noStore)
+  pub kept : e .store ≡ noStore → (mem : List ℕ) → Performed vectors mem own e mem own′ (tells o noStore)
   unfolding memoryAfter stored
   kept n mem = performed (sym (ap (λ (s : Store). stored (s .width) mem (s .address) (s .value)) n)) (sym (ap (tells o) n))
 

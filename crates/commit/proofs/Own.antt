@@ -96,10 +96,10 @@ module _ (s : List ℕ) (core : ℕ) (h : core * stateWords + stateWords ≤ len
   stands-accumulated Kept d = d
   stands-accumulated (Became m) d = stands-put macloAt (m .low) (omega arith) (stands-put machiAt (m .high) (omega arith) d)
 
-  stands-exception : (o : Outcome) {t s′ : List ℕ} → Stands t s′ → Stands (putException o t 0) (putException o s′ core)
+  stands-exception : (vectors : List ℕ) (o : Outcome) {t s′ : List ℕ} → Stands t s′ → Stands (putException vectors o t 0) (putException vectors o s′ core)
   unfolding putException
-  stands-exception Completed d = d
-  stands-exception (Raised x) d =
+  stands-exception vectors Completed d = d
+  stands-exception vectors (Raised x) d =
       stands-put esrAt (x .esr) (omega arith) (stands-put eearAt (x .eear) (omega arith) (stands-put epcrAt (x .epcr) (omega arith) (stands-put pcAt _ (omega arith) d)))
 
   stands-flow : (e : Effect) {t s′ : List ℕ} → Stands t s′ → Stands (putFlow t 0 e) (putFlow s′ core e)
@@ -113,10 +113,10 @@ module _ (s : List ℕ) (core : ℕ) (h : core * stateWords + stateWords ≤ len
       stands-put modeAt _ (omega arith) (stands-put linkAddressAt _ (omega arith) (stands-put linkAt _ (omega arith) (stands-put srAt _ (omega arith) d)))
 
   -- a commit to the part is a commit to the states
-  part-committed : (e : Effect) → e .place < stateWords → with-part s core (ownState (part s core) 0 e) ≡ ownState s core e
+  part-committed : (vectors : List ℕ) (e : Effect) → e .place < stateWords → with-part s core (ownState vectors (part s core) 0 e) ≡ ownState vectors s core e
   unfolding ownState
-  part-committed e l =
-      stands-exception (e .outcome) (stands-accumulated (e .accumulated) (stands-status e (stands-flow e (stands-value e l at-first)))) .whole
+  part-committed vectors e l =
+      stands-exception vectors (e .outcome) (stands-accumulated (e .accumulated) (stands-status e (stands-flow e (stands-value e l at-first)))) .whole
 
   -- the same of the part from core * stateWords to core * stateWords + stateWords, as the code has it
   module _ (n : ℕ) (q : n ≡ stateWords) where
@@ -129,7 +129,7 @@ module _ (s : List ℕ) (core : ℕ) (h : core * stateWords + stateWords ≤ len
     pub mid-inputs : (f : Fields) → Registers f → ownInputs (take n (drop (core * stateWords) s)) core f ≡ inputs s core f
     mid-inputs f r = subst (λ (n : ℕ). ownInputs (take n (drop (core * stateWords) s)) core f ≡ inputs s core f) (sym q) (part-inputs f r)
 
-    pub mid-committed : {t : List ℕ} (e : Effect) → e .place < stateWords → t ≡ ownState (take n (drop (core * stateWords) s)) 0 e → putMid (core * stateWords) n s t ≡ ownState s core e
-    mid-committed {t} e l p =
+    pub mid-committed : (vectors : List ℕ) {t : List ℕ} (e : Effect) → e .place < stateWords → t ≡ ownState vectors (take n (drop (core * stateWords) s)) 0 e → putMid (core * stateWords) n s t ≡ ownState vectors s core e
+    mid-committed vectors {t} e l p =
         ap (putMid (core * stateWords) n s) p
-        ∙ subst (λ (n : ℕ). putMid (core * stateWords) n s (ownState (take n (drop (core * stateWords) s)) 0 e) ≡ ownState s core e) (sym q) (part-committed e l)
+        ∙ subst (λ (n : ℕ). putMid (core * stateWords) n s (ownState vectors (take n (drop (core * stateWords) s)) 0 e) ≡ ownState vectors s core e) (sym q) (part-committed vectors e l)

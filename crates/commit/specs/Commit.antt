@@ -1,5 +1,5 @@
 -- What an instruction reads of its core's state, and what its effect leaves in memory and in every state: document 01, "What is lent" and "One
--- instruction"; document 02, notes 2 and 4. The states are one list, stateWords for each core.
+-- instruction"; document 02, notes 2, 4 and 6. The states are one list, stateWords for each core.
 use mathlib.Core.Bool.{Bool, _&&_}
 use mathlib.Core.List.{List}
 use Prim.Native.Nat.{ℕ, zero, suc, _+_, _*_, _/_}
@@ -67,11 +67,12 @@ unfoldable pub putAccumulated : Accumulated → List ℕ → ℕ → List ℕ
 putAccumulated Kept s core = s
 putAccumulated (Became m) s core = put (put s core machiAt (m .high)) core macloAt (m .low)
 
--- an exception goes to its vector and leaves EPCR, EEAR and ESR too
-unfoldable pub putException : Outcome → List ℕ → ℕ → List ℕ
-putException Completed s core = s
-putException (Raised x) s core =
-    put (put (put (put s core pcAt (vector (x .cause))) core epcrAt (x .epcr)) core eearAt (x .eear)) core esrAt (x .esr)
+-- an exception goes to its vector and leaves EPCR, EEAR and ESR too. Document 02, note 6: "whatever list passed loading, the step rules are
+-- read with it"
+unfoldable pub putException : List ℕ → Outcome → List ℕ → ℕ → List ℕ
+putException vectors Completed s core = s
+putException vectors (Raised x) s core =
+    put (put (put (put s core pcAt (vector vectors (x .cause))) core epcrAt (x .epcr)) core eearAt (x .eear)) core esrAt (x .esr)
 
 -- "An exception adds 1 to raised."
 abbrev pub raisedBy : Outcome → ℕ
@@ -79,9 +80,9 @@ raisedBy Completed = 0
 raisedBy (Raised x) = 1
 
 -- the states after a core's effect, before links are cleared
-unfoldable pub ownState : List ℕ → ℕ → Effect → List ℕ
-ownState s core e =
-    putException (e .outcome) (putAccumulated (e .accumulated) (putStatus (putFlow (putValue s core e) core e) core e) core) core
+unfoldable pub ownState : List ℕ → List ℕ → ℕ → Effect → List ℕ
+ownState vectors s core e =
+    putException vectors (e .outcome) (putAccumulated (e .accumulated) (putStatus (putFlow (putValue s core e) core e) core e) core) core
 
 -- "Any store clears every core's link to the word it touches. A cleared link has link address 0." w is the word's address
 unfoldable pub clearLink : List ℕ → ℕ → ℕ → List ℕ
@@ -99,10 +100,10 @@ writesMemory e = ltb 0 (e .store .width)
 abbrev pub touched : Effect → ℕ
 touched e = e .store .address / 4
 
-unfoldable pub statesAfter : List ℕ → ℕ → Effect → List ℕ
-statesAfter s core e =
-    if writesMemory e then clearLinks (coreCount s) (ownState s core e) (touched e * 4) else
-    ownState s core e
+unfoldable pub statesAfter : List ℕ → List ℕ → ℕ → Effect → List ℕ
+statesAfter vectors s core e =
+    if writesMemory e then clearLinks (coreCount s) (ownState vectors s core e) (touched e * 4) else
+    ownState vectors s core e
 
 unfoldable pub memoryAfter : List ℕ → Effect → List ℕ
 memoryAfter mem e = stored (e .store .width) mem (e .store .address) (e .store .value)

@@ -44,14 +44,14 @@ abbrev pub OwnState : List ℕ → ℕ → Type 0
 OwnState own core = (stateWords ≤ length own) × (core < 4)
 
 -- the effect e turned own into own′, and ended in o
-pub record Owned (own : List ℕ) (e : Effect) (own′ : List ℕ) (o : Outcome) : Type 0 where
-  pub left : own′ ≡ ownState own 0 e
+pub record Owned (vectors own : List ℕ) (e : Effect) (own′ : List ℕ) (o : Outcome) : Type 0 where
+  pub left : own′ ≡ ownState vectors own 0 e
   pub ended : o ≡ e .outcome
 
 -- the effect e turned memory mem and own into mem′ and own′, and the answer is r
-pub record Performed (mem own : List ℕ) (e : Effect) (mem′ own′ : List ℕ) (r : Done) : Type 0 where
+pub record Performed (vectors mem own : List ℕ) (e : Effect) (mem′ own′ : List ℕ) (r : Done) : Type 0 where
   pub memory : mem′ ≡ memoryAfter mem e
-  pub left : own′ ≡ ownState own 0 e
+  pub left : own′ ≡ ownState vectors own 0 e
   pub done : r ≡ doneBy e
 
 -- ---- what can be committed
@@ -71,9 +71,9 @@ abbrev pub Committable : List ℕ → List ℕ → ℕ → ℕ → Action → Ty
 Committable mem own core entry a = OwnState own core × Fits (length mem) (actionEffect own core entry a)
 
 -- its commit, with the outcome for an answer, and with what the run is told
-abbrev pub Acted : List ℕ → List ℕ → ℕ → ℕ → Action → List ℕ → List ℕ → Outcome → Type 0
-Acted mem own core entry a mem′ own′ o =
-    (mem′ ≡ memoryAfter mem (actionEffect own core entry a)) × Owned own (actionEffect own core entry a) own′ o
+abbrev pub Acted : List ℕ → List ℕ → List ℕ → ℕ → ℕ → Action → List ℕ → List ℕ → Outcome → Type 0
+Acted vectors mem own core entry a mem′ own′ o =
+    (mem′ ≡ memoryAfter mem (actionEffect own core entry a)) × Owned vectors own (actionEffect own core entry a) own′ o
 
-abbrev pub Commits : List ℕ → List ℕ → ℕ → ℕ → Action → List ℕ → List ℕ → Done → Type 0
-Commits mem own core entry a mem′ own′ r = Performed mem own (actionEffect own core entry a) mem′ own′ r
+abbrev pub Commits : List ℕ → List ℕ → List ℕ → ℕ → ℕ → Action → List ℕ → List ℕ → Done → Type 0
+Commits vectors mem own core entry a mem′ own′ r = Performed vectors mem own (actionEffect own core entry a) mem′ own′ r

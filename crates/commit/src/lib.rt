@@ -2,6 +2,7 @@
 ghost use mathlib.Core.Path.{_≡_};
 ghost use Prim.Native.Nat.{_≤_, _<_};
 ghost use lib.ListN.{length};
+ghost use Rattle.isa.specs.Vectors.{vectorCount};
 ghost use Rattle.memory.specs.Memory.{stored as storedOf};
 ghost use Rattle.effect.specs.State.{stateWords};
 ghost use Rattle.effect.specs.Inner.{effectBy};
@@ -55,35 +56,53 @@ fn done_by(outcome: Outcome, action: Action) -> Done
 }
 
 // An effect, and what it tells the run.
-fn settle(memory: &mut [u8], own: &mut [u32], e: Effect) -> Done
+fn settle(vectors: &[u32], memory: &mut [u8], own: &mut [u32], e: Effect) -> Done
     requires { ⌜ stateWords ≤ length (now own) ⌝ }
     requires { ⌜ Fits (length (now memory)) e ⌝ }
-    ensures { λ r. ⌜ Performed (now (memory .entry)) (now (own .entry)) e (now (memory .exit)) (now (own .exit)) r ⌝ }
+    requires { ⌜ length (now vectors) ≡ vectorCount ⌝ }
+    ensures { λ r. ⌜ Performed (now (vectors .entry)) (now (memory .entry)) (now (own .entry)) e (now (memory .exit)) (now (own .exit)) r ⌝ }
 {
-    let outcome = own_state::commit_state(own, e);
+    let outcome = own_state::commit_state(vectors, own, e);
     let s = e.store;
     put_store(memory, s);
     tell(outcome, s)
 }
 
 // Any action, and how it ends. It stands by itself, so that the frequent ones do not pay for the others.
-fn other(memory: &mut [u8], own: &mut [u32], core: usize, entry: u64, action: Action) -> Outcome
+fn other(
+    vectors: &[u32],
+    memory: &mut [u8],
+    own: &mut [u32],
+    core: usize,
+    entry: u64,
+    action: Action,
+) -> Outcome
     requires { ⌜ Committable (now memory) (now own) core entry action ⌝ }
-    ensures { λ r. ⌜ Acted (now (memory .entry)) (now (own .entry)) core entry action (now (memory .exit)) (now (own .exit)) r ⌝ }
+    requires { ⌜ length (now vectors) ≡ vectorCount ⌝ }
+    ensures { λ r. ⌜ Acted (now (vectors .entry)) (now (memory .entry)) (now (own .entry)) core entry action (now (memory .exit)) (now (own .exit)) r ⌝ }
 {
     let x = inputs_at(own, core, entry);
-    let outcome = own_state::commit_state(own, effects::effect_by(x, action));
+    let outcome = own_state::commit_state(vectors, own, effects::effect_by(x, action));
     put_store(memory, effects::store_of(action));
     outcome
 }
 
 // What is written by an instruction that goes on. Each of these reads its inputs itself, so that nothing is read that it does not use.
-pub fn write(memory: &mut [u8], own: &mut [u32], core: usize, entry: u64, w: Written) -> Done
+pub fn write(
+    vectors: &[u32],
+    memory: &mut [u8],
+    own: &mut [u32],
+    core: usize,
+    entry: u64,
+    w: Written,
+) -> Done
     requires { ⌜ OwnState (now own) core ⌝ }
     requires { ⌜ w .place < stateWords ⌝ }
-    ensures { λ r. ⌜ Commits (now (memory .entry)) (now (own .entry)) core entry (Action.Advance w) (now (memory .exit)) (now (own .exit)) r ⌝ }
+    requires { ⌜ length (now vectors) ≡ vectorCount ⌝ }
+    ensures { λ r. ⌜ Commits (now (vectors .entry)) (now (memory .entry)) (now (own .entry)) core entry (Action.Advance w) (now (memory .exit)) (now (own .exit)) r ⌝ }
 {
     settle(
+        vectors,
         memory,
         own,
         effects::advance_effect(inputs_at(own, core, entry), w),
@@ -91,42 +110,68 @@ pub fn write(memory: &mut [u8], own: &mut [u32], core: usize, entry: u64, w: Wri
 }
 
 // An action that is likely to go on.
-pub fn advance(memory: &mut [u8], own: &mut [u32], core: usize, entry: u64, action: Action) -> Done
+pub fn advance(
+    vectors: &[u32],
+    memory: &mut [u8],
+    own: &mut [u32],
+    core: usize,
+    entry: u64,
+    action: Action,
+) -> Done
     requires { ⌜ Committable (now memory) (now own) core entry action ⌝ }
-    ensures { λ r. ⌜ Commits (now (memory .entry)) (now (own .entry)) core entry action (now (memory .exit)) (now (own .exit)) r ⌝ }
+    requires { ⌜ length (now vectors) ≡ vectorCount ⌝ }
+    ensures { λ r. ⌜ Commits (now (vectors .entry)) (now (memory .entry)) (now (own .entry)) core entry action (now (memory .exit)) (now (own .exit)) r ⌝ }
 {
     match action {
-        Action::Advance(w) => write(memory, own, core, entry, w),
-        _ => done_by(other(memory, own, core, entry, action), action),
+        Action::Advance(w) => write(vectors, memory, own, core, entry, w),
+        _ => done_by(other(vectors, memory, own, core, entry, action), action),
     }
 }
 
 // An action that is likely to be a jump.
-pub fn jump(memory: &mut [u8], own: &mut [u32], core: usize, entry: u64, action: Action) -> Done
+pub fn jump(
+    vectors: &[u32],
+    memory: &mut [u8],
+    own: &mut [u32],
+    core: usize,
+    entry: u64,
+    action: Action,
+) -> Done
     requires { ⌜ Committable (now memory) (now own) core entry action ⌝ }
-    ensures { λ r. ⌜ Commits (now (memory .entry)) (now (own .entry)) core entry action (now (memory .exit)) (now (own .exit)) r ⌝ }
+    requires { ⌜ length (now vectors) ≡ vectorCount ⌝ }
+    ensures { λ r. ⌜ Commits (now (vectors .entry)) (now (memory .entry)) (now (own .entry)) core entry action (now (memory .exit)) (now (own .exit)) r ⌝ }
 {
     match action {
         Action::Jump(j) => settle(
+            vectors,
             memory,
             own,
             effects::jump_effect(inputs_at(own, core, entry), j),
         ),
-        _ => done_by(other(memory, own, core, entry, action), action),
+        _ => done_by(other(vectors, memory, own, core, entry, action), action),
     }
 }
 
 // An action that is likely to store.
-pub fn save(memory: &mut [u8], own: &mut [u32], core: usize, entry: u64, action: Action) -> Done
+pub fn save(
+    vectors: &[u32],
+    memory: &mut [u8],
+    own: &mut [u32],
+    core: usize,
+    entry: u64,
+    action: Action,
+) -> Done
     requires { ⌜ Committable (now memory) (now own) core entry action ⌝ }
-    ensures { λ r. ⌜ Commits (now (memory .entry)) (now (own .entry)) core entry action (now (memory .exit)) (now (own .exit)) r ⌝ }
+    requires { ⌜ length (now vectors) ≡ vectorCount ⌝ }
+    ensures { λ r. ⌜ Commits (now (vectors .entry)) (now (memory .entry)) (now (own .entry)) core entry action (now (memory .exit)) (now (own .exit)) r ⌝ }
 {
     match action {
         Action::Save(s) => settle(
+            vectors,
             memory,
             own,
             effects::save_effect(inputs_at(own, core, entry), s),
         ),
-        _ => done_by(other(memory, own, core, entry, action), action),
+        _ => done_by(other(vectors, memory, own, core, entry, action), action),
     }
 }

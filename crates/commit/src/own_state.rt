@@ -2,6 +2,7 @@
 ghost use mathlib.Core.Path.{_≡_};
 ghost use Prim.Native.Nat.{_≤_, _<_};
 ghost use lib.ListN.{length};
+ghost use Rattle.isa.specs.Vectors.{vectorCount};
 ghost use Rattle.effect.specs.State.{stateWords};
 ghost use Rattle.commit.specs.Commit.{putValue, putFlow, putStatus, putAccumulated, putException};
 ghost use Rattle.commit.specs.Inner.{Owned};
@@ -63,33 +64,36 @@ fn put_accumulated(own: &mut [u32], accumulated: Accumulated)
 }
 
 // An exception's vector, EPCR, EEAR and ESR.
-fn put_raised(own: &mut [u32], x: Exception)
+fn put_raised(vectors: &[u32], own: &mut [u32], x: Exception)
     requires { ⌜ stateWords ≤ length (now own) ⌝ }
-    ensures { λ _. ⌜ now (own .exit) ≡ putException (Outcome.Raised x) (now (own .entry)) 0 ⌝ }
+    requires { ⌜ length (now vectors) ≡ vectorCount ⌝ }
+    ensures { λ _. ⌜ now (own .exit) ≡ putException (now (vectors .entry)) (Outcome.Raised x) (now (own .entry)) 0 ⌝ }
 {
     let cause = x.cause;
-    own[state::PC] = vectors::vector(cause);
+    own[state::PC] = vectors::vector(vectors, cause);
     own[state::EPCR] = x.epcr;
     own[state::EEAR] = x.eear;
     own[state::ESR] = x.esr;
 }
 
 // What is left of an exception, if the step ends in one.
-fn put_outcome(own: &mut [u32], outcome: Outcome)
+fn put_outcome(vectors: &[u32], own: &mut [u32], outcome: Outcome)
     requires { ⌜ stateWords ≤ length (now own) ⌝ }
-    ensures { λ _. ⌜ now (own .exit) ≡ putException outcome (now (own .entry)) 0 ⌝ }
+    requires { ⌜ length (now vectors) ≡ vectorCount ⌝ }
+    ensures { λ _. ⌜ now (own .exit) ≡ putException (now (vectors .entry)) outcome (now (own .entry)) 0 ⌝ }
 {
     match outcome {
         Outcome::Completed => {}
-        Outcome::Raised(x) => put_raised(own, x),
+        Outcome::Raised(x) => put_raised(vectors, own, x),
     }
 }
 
 // The core's own state; answers how the step ends.
-pub fn commit_state(own: &mut [u32], e: Effect) -> Outcome
+pub fn commit_state(vectors: &[u32], own: &mut [u32], e: Effect) -> Outcome
     requires { ⌜ stateWords ≤ length (now own) ⌝ }
     requires { ⌜ e .place < stateWords ⌝ }
-    ensures { λ r. ⌜ Owned (now (own .entry)) e (now (own .exit)) r ⌝ }
+    requires { ⌜ length (now vectors) ≡ vectorCount ⌝ }
+    ensures { λ r. ⌜ Owned (now (vectors .entry)) (now (own .entry)) e (now (own .exit)) r ⌝ }
 {
     put_value(own, e);
     put_flow(own, e);
@@ -97,6 +101,6 @@ pub fn commit_state(own: &mut [u32], e: Effect) -> Outcome
     let accumulated = e.accumulated;
     put_accumulated(own, accumulated);
     let outcome = e.outcome;
-    put_outcome(own, outcome);
+    put_outcome(vectors, own, outcome);
     outcome
 }

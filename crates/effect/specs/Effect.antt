@@ -121,7 +121,7 @@ exceptionPC x Trap = restart x
 exceptionPC x Interrupt = x .flow .pc
 
 -- An exception, once v went to place and SR became sr. "ESR takes SR; then SM = 1, TEE, IEE, OVE = 0, DSX = slot." "Delay, target and link are
--- cleared." Its cause has the vector, to which PC goes when the exception is committed (putException).
+-- cleared." The run's list has its cause's vector, to which PC goes when the exception is committed (putException).
 unfoldable pub raises : Inputs → ℕ → ℕ → ℕ → Cause → ℕ → Effect
 raises x place v sr cause eear = record {
   place = place;

@@ -4,7 +4,7 @@ use mathlib.Core.List.{List, [], _∷_}
 use Prim.Native.Nat.{ℕ, _%_}
 use lib.Dec.{eqb, leb}
 use Rattle.arith.specs.Status.{allowed}
-use Rattle.effect.specs.declared.types.Board.{Board}
+use Rattle.effect.specs.Board.{Board}
 
 -- "32-bit words for each of 1 to 4 cores. 0–31: r0–r31. 32: PC, the next instruction's address. 33: delay, 1 if that instruction is in a
 -- delay slot, else 0. 34: target after the slot. 35: SR. 36: EPCR. 37: EEAR. 38: ESR. 39: link, 0 or 1. 40: link address. 41: mode, 0 halted

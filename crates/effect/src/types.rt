@@ -41,8 +41,8 @@ pub enum Outcome {
     Raised(Exception),
 }
 
-// What every instruction of a run is given beside its core's state: how many cores there are, and how many bytes at the start of memory are
-// read-only.
+// The numbers that every instruction of a run is given beside its core's state: how many cores there are, and how many bytes at the start of memory are
+// read-only. The list of vectors, which it is given too, is lent beside them: by value it would make every step dearer.
 pub struct Board {
     pub cores: u32,
     pub limit: u32,

@@ -8,9 +8,11 @@ use lib.Dec.{T, eqb, ltb, eqb→eq, leb→le, ltb→lt}
 use lib.ListN.{length, getD}
 use borrow.Author.Tests.{eq-eqb, ne-eqb}
 use Rattle.bits.proofs.Tests.{T-of}
+use Rattle.bits.proofs.Every.{below-at, of-below}
 use Rattle.bits.proofs.Cases.{by-equality}
+use Rattle.vector_list.proofs.Laws.{fit-seven, fit-multiple}
 use Rattle.effect.specs.State.{stateWords}
-use Rattle.effect.specs.declared.types.Board.{Board}
+use Rattle.effect.specs.Board.{Board}
 use Rattle.commit.specs.Commit.{coreCount}
 use Rattle.decode_cache.specs.Cache.{formAt}
 use Rattle.decode_cache.specs.Inner.{Backed}
@@ -19,7 +21,7 @@ use Rattle.lawful.proofs.Accepted.{accepted-means, means-accepted}
 use Rattle.refusal.specs.Lent.{Lent, Left, left, boardOf}
 use Rattle.refusal.specs.Refusal.{maxSchedule, statesObey, scheduleFits, namesCores, levelsFit, cacheFits, entryRight, entriesRight, everyFrom, plainRefusal, fastRefusal, refusalNumber}
 use Rattle.refusal.specs.declared.cause.Refusal.{Refusal}
-use Rattle.refusal.proofs.Tests.{below-at, of-below, from-at, of-from}
+use Rattle.refusal.proofs.Tests.{from-at, of-from}
 use Rattle.refusal.proofs.Passes.{Passes, CachePasses, plain-passes, fast-then-plain, cache-passes, none-refused, cause-number, cores-fit}
 use Rattle.steps.specs.Plain.{Plain, scheduledBy, plainRun, start}
 use Rattle.steps.specs.Fast.{Fast}
@@ -49,6 +51,8 @@ passes-runnable l cache p b r = record {
   few-entries = leb→le (length (l .schedule)) maxSchedule (p .schedule-fits);
   names-cores = λ i h. ltb→lt _ _ (from-at (λ i core. ltb core (coreCount (l .states))) (l .schedule) 0 (p .names-cores) i h);
   levels-fit = eqb→eq (length (l .levels)) (length (l .schedule)) (p .levels-fit);
+  seven-vectors = fit-seven (l .vectors) (p .vectors-fit);
+  vectors-lawful = fit-multiple (l .vectors) (p .vectors-fit);
   accepted = obeys-accepted (boardOf l) (l .states) (p .states-obey);
   backed = b;
   right = r;
@@ -102,7 +106,7 @@ module _ (l : Lent) (cache : List ℕ) (z : fastRefusal l cache ≡ 0) where
   unfolding passes scheduleFits namesCores levelsFit everyFrom
   left-accepted x cache′ p q r a f =
       let n : length cache′ ≡ length (x .memory) / 4 = r ∙ cache-length l cache (cache-passes l cache z) ∙ ap (λ (n : ℕ). n / 4) (sym p) in
-      let b : boardOf (again l x) ≡ boardOf l = ap (λ (n : ℕ). record { cores = n / stateWords; limit = l .limit }) q in
+      let b : boardOf (again l x) ≡ boardOf l = ap (λ (n : ℕ). record { cores = n / stateWords; limit = l .limit; vectors = l .vectors }) q in
       none-refused (again l x) cache′
       (record {
         memory-fits = rw p (passes .memory-fits);
@@ -112,6 +116,7 @@ module _ (l : Lent) (cache : List ℕ) (z : fastRefusal l cache ≡ 0) where
         names-cores = tt;
         levels-fit = tt;
         limit-fits = rw p (passes .limit-fits);
+        vectors-fit = passes .vectors-fit;
       })
       (right-passes (again l x) cache′ n (subst (λ (board : Board). Right board cache′ (x .memory)) (sym b) f))
 
@@ -165,7 +170,7 @@ module _ (l : Lent) where
         let f : Agrees board (fastOf mem′ s′ cache′ n) (plainRun l) (history l cache) =
         subst (λ (x : Fast). Agrees board x (plainRun l) (history l cache)) (sym (e .left))
         (from-agrees board (scheduledBy l) (fastOf (l .memory) (l .states) cache noCounts) (runs .right)) in
-        let t : AllAccepted board (plainRun l .states) = from-accepted board (l .schedule) (l .levels) (start l) (runs .names-cores) (runs .accepted) in
+        let t : AllAccepted board (plainRun l .states) = from-accepted board (runs .vectors-lawful) (l .schedule) (l .levels) (start l) (runs .names-cores) (runs .accepted) in
         let c : cache′ ≡ entriesFrom board 0 (plainRun l .memory) (history l cache .cached) =
         cache-is board mem′ cache′ (f .right-again)
         ∙ ap₂ (λ (x : Plain) (h : History). entriesFrom board 0 (x .memory) (h .cached)) (f .same-plain) (f .same-history) in

@@ -46,15 +46,16 @@ pub record PlainAnswer (l : Lent) (x : Left) (r : Answer) : Type 0 where
 unfoldable pub cacheLeft : Lent → List ℕ → List ℕ
 cacheLeft l cache = entriesFrom (boardOf l) 0 (plainRun l .memory) (history l cache .cached)
 
--- what l left is lent again at the same limit, with an empty schedule and no levels, which meet none of 4, 5 and 11
+-- what l left is lent again at the same limit and with the same vectors, with an empty schedule and no levels, which meet none of 4, 5 and 11
 abbrev pub again : Lent → Left → Lent
-again l x = record { memory = x .memory; states = x .states; schedule = []; levels = []; limit = l .limit }
+again l x = record { memory = x .memory; states = x .states; schedule = []; levels = []; limit = l .limit; vectors = l .vectors }
 
 -- The fast run of l and cache answers r and leaves x and cache′. Demand 3: "both end with the same memory, the same sheets, the same count of
 -- instructions executed and the same count of exceptions raised"; "Afterwards each entry of the table and the reused count are exactly what
 -- document 01's history says, and the table is accepted again with that memory and those sheets." ("accepted again: the memory, sheets and
 -- table left meet none that concerns them") Document 02, note 2: "A run through the table matches the plain one over all 88 kinds."
--- Note 4: "Two runs compared for the table get the same levels"; note 5: "Plain and table runs are compared at one and the same limit"
+-- Note 4: "Two runs compared for the table get the same levels"; note 5: "Plain and table runs are compared at one and the same limit"; of the vectors, document
+-- 01: "both runs get equal memory, sheets and schedule, and the same of anything else that both take"
 pub record FastAnswer (l : Lent) (cache : List ℕ) (x : Left) (cache′ : List ℕ) (r : Answer) : Type 0 where
   pub refusal : number r ≡ fastRefusal l cache
   pub left : plainOf x (countsOf r) ≡ unlessRefused (fastRefusal l cache) (plainRun l) (start l)

@@ -11,11 +11,12 @@ pub fn fast_run(
     schedule: &[u8],
     levels: &[u32],
     limit: u32,
+    vectors: &[u32],
     cache: &mut [u64],
 ) -> Answer
-    ensures { λ r. ⌜ FastAnswer (lent (now (memory .entry)) (now (states .entry)) (now (schedule .entry)) (now (levels .entry)) limit) (now (cache .entry)) (left (now (memory .exit)) (now (states .exit))) (now (cache .exit)) r ⌝ }
+    ensures { λ r. ⌜ FastAnswer (lent (now (memory .entry)) (now (states .entry)) (now (schedule .entry)) (now (levels .entry)) limit (now (vectors .entry))) (now (cache .entry)) (left (now (memory .exit)) (now (states .exit))) (now (cache .exit)) r ⌝ }
 {
-    let verdict = refusal::check_fast(memory, states, schedule, levels, limit, cache);
+    let verdict = refusal::check_fast(memory, states, schedule, levels, limit, vectors, cache);
     match verdict {
         Verdict::Accepted => Answer::Ran(steps::run(
             memory,
@@ -23,6 +24,7 @@ pub fn fast_run(
             schedule,
             levels,
             limit,
+            vectors,
             cache,
         )),
         Verdict::Refused(cause) => Answer::Refused(cause),

@@ -11,14 +11,15 @@ pub fn plain_run(
     schedule: &[u8],
     levels: &[u32],
     limit: u32,
+    vectors: &[u32],
 ) -> Answer
-    ensures { λ r. ⌜ PlainAnswer (lent (now (memory .entry)) (now (states .entry)) (now (schedule .entry)) (now (levels .entry)) limit) (left (now (memory .exit)) (now (states .exit))) r ⌝ }
+    ensures { λ r. ⌜ PlainAnswer (lent (now (memory .entry)) (now (states .entry)) (now (schedule .entry)) (now (levels .entry)) limit (now (vectors .entry))) (left (now (memory .exit)) (now (states .exit))) r ⌝ }
 {
-    let verdict = refusal::check(memory, states, schedule, levels, limit);
+    let verdict = refusal::check(memory, states, schedule, levels, limit, vectors);
     match verdict {
         Verdict::Accepted => {
             let mut none = [0u64; 0];
-            Answer::Ran(steps::run(memory, states, schedule, levels, limit, &mut none))
+            Answer::Ran(steps::run(memory, states, schedule, levels, limit, vectors, &mut none))
         }
         Verdict::Refused(cause) => Answer::Refused(cause),
     }

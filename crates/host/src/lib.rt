@@ -40,10 +40,11 @@ pub extern "C" fn or1k_plain_run(
     schedule: &[u8],
     levels: &[u32],
     limit: u32,
+    vectors: &[u32],
 ) -> u64
-    ensures { λ r. ⌜ PlainRun (lent (now (memory .entry)) (now (states .entry)) (now (schedule .entry)) (now (levels .entry)) limit) (left (now (memory .exit)) (now (states .exit))) r ⌝ }
+    ensures { λ r. ⌜ PlainRun (lent (now (memory .entry)) (now (states .entry)) (now (schedule .entry)) (now (levels .entry)) limit (now (vectors .entry))) (left (now (memory .exit)) (now (states .exit))) r ⌝ }
 {
-    engine::answer::pack(engine::plain::plain_run(memory, states, schedule, levels, limit))
+    engine::answer::pack(engine::plain::plain_run(memory, states, schedule, levels, limit, vectors))
 }
 
 #[no_mangle]
@@ -53,9 +54,18 @@ pub extern "C" fn or1k_fast_run(
     schedule: &[u8],
     levels: &[u32],
     limit: u32,
+    vectors: &[u32],
     cache: &mut [u64],
 ) -> u64
-    ensures { λ r. ⌜ FastRun (lent (now (memory .entry)) (now (states .entry)) (now (schedule .entry)) (now (levels .entry)) limit) (now (cache .entry)) (left (now (memory .exit)) (now (states .exit))) (now (cache .exit)) r ⌝ }
+    ensures { λ r. ⌜ FastRun (lent (now (memory .entry)) (now (states .entry)) (now (schedule .entry)) (now (levels .entry)) limit (now (vectors .entry))) (now (cache .entry)) (left (now (memory .exit)) (now (states .exit))) (now (cache .exit)) r ⌝ }
 {
-    engine::answer::pack(engine::fast::fast_run(memory, states, schedule, levels, limit, cache))
+    engine::answer::pack(engine::fast::fast_run(
+        memory,
+        states,
+        schedule,
+        levels,
+        limit,
+        vectors,
+        cache,
+    ))
 }

@@ -5,3 +5,4 @@ pub mod Registers
 pub mod Rows
 pub mod Shapes
 pub mod Tags
+pub mod OldList

@@ -14,8 +14,6 @@ use Rattle.isa.specs.declared.kinds.Form.{Form}
 use Rattle.isa.specs.declared.kinds.Form.the-variants.{Zext, Sext, Jump}
 use Rattle.isa.specs.declared.kinds.Shape.{Shape}
 use Rattle.isa.specs.declared.entry.Fields.{Fields}
-use Rattle.isa.specs.declared.vectors.Cause.{Cause}
-use Rattle.isa.specs.declared.vectors.Cause.the-variants.{Bus, Alignment, Illegal, Range, Syscall, Trap, Interrupt}
 
 -- the kind of a word
 unfoldable pub kindOf : ℕ → ℕ
@@ -114,13 +112,3 @@ formIn set.jump = Jump
 
 abbrev pub shapeIn : Row → Shape
 shapeIn r = shape (has set.D (r .bits)) (has set.A (r .bits)) (has set.B (r .bits)) (placeIn (r .bits)) (formIn (r .form))
-
--- the place of a cause in the table of vectors
-abbrev pub causeNumber : Cause → ℕ
-causeNumber Bus = 0
-causeNumber Alignment = 1
-causeNumber Illegal = 2
-causeNumber Range = 3
-causeNumber Syscall = 4
-causeNumber Trap = 5
-causeNumber Interrupt = 6

@@ -20,6 +20,7 @@ use Rattle.memory.proofs.Laws.{length-stored}
 use Rattle.effect.specs.State.{stateWords, pcAt, srAt, esrAt, modeAt, picmrAt, running}
 use Rattle.card.specs.Card.{Job, Verdict, good, refused, imageFault, cardSays, step, stop, first, word, every}
 use Rattle.card.specs.Answer.{wordsFrom}
+use Rattle.card.proofs.Laws.{every-getD}
 use Rattle.card.specs.Inner.{stepIn}
 use Rattle.card.specs.declared.Cause.{Cause}
 use Rattle.card.specs.declared.Field.{Field}
@@ -117,11 +118,6 @@ every-append : (f : ℕ → Bool) (xs ys : List ℕ) → T (every f xs) → T (e
 every-append f [] ys t u = u
 every-append f (x ∷ xs) ys t u =
     and-both (f x) (every f (xs ++ ys)) (and-left (f x) (every f xs) t) (every-append f xs ys (and-right (f x) (every f xs) t) u)
-
-every-getD : (f : ℕ → Bool) (s : List ℕ) (i : ℕ) → i < length s → T (every f s) → T (f (getD s i 0))
-every-getD f [] i h t = absurd (not-suc-le-zero h)
-every-getD f (x ∷ s) zero h t = and-left (f x) (every f s) t
-every-getD f (x ∷ s) (suc i) h t = every-getD f s i (omega arith) (and-right (f x) (every f s) t)
 
 pub every-entry : (f : ℕ → Bool) (s : List ℕ) (n : ℕ) → 0 < length s → T (every f s) → T (every f (entries s n))
 unfolding entries

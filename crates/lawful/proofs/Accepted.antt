@@ -7,7 +7,7 @@ use lib.Dec.{T, eqb, eqb→eq, leb→le, le→leb}
 use borrow.Author.Tests.{eq-eqb, eqb-true}
 use Rattle.bits.proofs.Tests.{and-left, and-right, and-both, T-of, Each}
 use Rattle.effect.specs.State.{halted, running, all, rules}
-use Rattle.effect.specs.declared.types.Board.{Board}
+use Rattle.effect.specs.Board.{Board}
 use Rattle.commit.specs.Commit.{wordAt}
 use Rattle.lawful.specs.Inner.{Mode, is-halted, is-running}
 use Rattle.lawful.specs.Accepted.{accepted, Accepted}

@@ -14,16 +14,16 @@ use Rattle.bits.proofs.Tests.{and-left, and-right, of-T}
 use Rattle.bits.proofs.Cases.{if-law, if-both}
 use Rattle.isa.specs.Vectors.{vector}
 use Rattle.effect.specs.State.{stateWords, pcAt, delayAt, targetAt, srAt, epcrAt, eearAt, esrAt, linkAt, linkAddressAt, modeAt, machiAt, macloAt, picmrAt, picsrAt}
-use Rattle.effect.specs.declared.types.Board.{Board}
+use Rattle.effect.specs.Board.{Board}
 use Rattle.effect.specs.declared.types.Accumulated.{Accumulated}
 use Rattle.effect.specs.declared.types.Accumulated.the-variants.{Kept, Became}
+use Rattle.effect.specs.declared.types.Exception.{Exception}
 use Rattle.effect.specs.declared.types.Outcome.{Outcome}
 use Rattle.effect.specs.declared.types.Outcome.the-variants.{Completed, Raised}
 use Rattle.effect.specs.declared.types.Effect.{Effect}
 use Rattle.commit.specs.Commit.{wordAt, put, putValue, putFlow, putStatus, putAccumulated, putException, ownState}
-use Rattle.lawful.specs.Inner.{Status, Multiple, Mask, LawfulState, LawfulWord, to-register, to-epcr, to-eear, to-esr, to-machi, to-maclo, to-picmr, to-picsr, LawfulOutcome, completes, raised, Lawful}
+use Rattle.lawful.specs.Inner.{Status, Multiple, LawfulVectors, Mask, LawfulState, LawfulWord, to-register, to-epcr, to-eear, to-esr, to-machi, to-maclo, to-picmr, to-picsr, LawfulOutcome, completes, raised, Lawful}
 use Rattle.lawful.specs.Accepted.{Accepted}
-use Rattle.lawful.proofs.Lawful.{vector-multiple}
 
 -- ---- several words put into one core's state: pairs of a place and a word
 
@@ -71,26 +71,26 @@ abbrev accumulations : Accumulated → List (ℕ × ℕ) → List (ℕ × ℕ)
 accumulations Kept l = l
 accumulations (Became m) l = (machiAt, m .high) ∷ (macloAt, m .low) ∷ l
 
-abbrev exceptional : Outcome → List (ℕ × ℕ)
-exceptional Completed = []
-exceptional (Raised x) = (pcAt, vector (x .cause)) ∷ (epcrAt, x .epcr) ∷ (eearAt, x .eear) ∷ (esrAt, x .esr) ∷ []
+abbrev exceptional : List ℕ → Outcome → List (ℕ × ℕ)
+exceptional vectors Completed = []
+exceptional vectors (Raised x) = (pcAt, vector vectors (x .cause)) ∷ (epcrAt, x .epcr) ∷ (eearAt, x .eear) ∷ (esrAt, x .esr) ∷ []
 
 -- what an effect puts there, after its value
-abbrev changes : Effect → Accumulated → Outcome → List (ℕ × ℕ)
-changes e a o = always e (accumulations a (exceptional o))
+abbrev changes : List ℕ → Effect → Accumulated → Outcome → List (ℕ × ℕ)
+changes vectors e a o = always e (accumulations a (exceptional vectors o))
 
-changes-inside : (e : Effect) (a : Accumulated) (o : Outcome) → T (inside (changes e a o))
-changes-inside e Kept Completed = tt
-changes-inside e Kept (Raised x) = tt
-changes-inside e (Became m) Completed = tt
-changes-inside e (Became m) (Raised x) = tt
+changes-inside : (vectors : List ℕ) (e : Effect) (a : Accumulated) (o : Outcome) → T (inside (changes vectors e a o))
+changes-inside vectors e Kept Completed = tt
+changes-inside vectors e Kept (Raised x) = tt
+changes-inside vectors e (Became m) Completed = tt
+changes-inside vectors e (Became m) (Raised x) = tt
 
-own-puts : (s : List ℕ) (core : ℕ) (e : Effect) → ownState s core e ≡ puts (changes e (e .accumulated) (e .outcome)) (putValue s core e) core
+own-puts : (vectors s : List ℕ) (core : ℕ) (e : Effect) → ownState vectors s core e ≡ puts (changes vectors e (e .accumulated) (e .outcome)) (putValue s core e) core
 unfolding ownState putStatus putFlow putAccumulated putException
-own-puts s core e = go (e .accumulated) (e .outcome)
+own-puts vectors s core e = go (e .accumulated) (e .outcome)
   where
     go : (a : Accumulated) (o : Outcome)
-        → putException o (putAccumulated a (putStatus (putFlow (putValue s core e) core e) core e) core) core ≡ puts (changes e a o) (putValue s core e) core
+        → putException vectors o (putAccumulated a (putStatus (putFlow (putValue s core e) core e) core e) core) core ≡ puts (changes vectors e a o) (putValue s core e) core
     go Kept Completed = refl
     go Kept (Raised x) = refl
     go (Became m) Completed = refl
@@ -121,18 +121,33 @@ length-value : (s : List ℕ) (core : ℕ) (e : Effect) → length (putValue s c
 unfolding putValue
 length-value s core e = if-both (λ (t : List ℕ). length t ≡ length s) (eqb (e .place) 0) refl (simp length-set)
 
-pub length-own : (s : List ℕ) (core : ℕ) (e : Effect) → length (ownState s core e) ≡ length s
-length-own s core e = ap length (own-puts s core e) ∙ length-puts (changes e (e .accumulated) (e .outcome)) (putValue s core e) core ∙ length-value s core e
+pub length-own : (vectors s : List ℕ) (core : ℕ) (e : Effect) → length (ownState vectors s core e) ≡ length s
+length-own vectors s core e = ap length (own-puts vectors s core e) ∙ length-puts (changes vectors e (e .accumulated) (e .outcome)) (putValue s core e) core ∙ length-value s core e
 
 -- another core's state
-pub own-other : (s : List ℕ) (core : ℕ) (e : Effect) (c j : ℕ) → e .place < stateWords → (c ≡ core → ⊥) → j < stateWords
-    → wordAt (ownState s core e) c j ≡ wordAt s c j
+pub own-other : (vectors s : List ℕ) (core : ℕ) (e : Effect) (c j : ℕ) → e .place < stateWords → (c ≡ core → ⊥) → j < stateWords
+    → wordAt (ownState vectors s core e) c j ≡ wordAt s c j
 unfolding putValue
-own-other s core e c j h n g =
-    ap (λ (t : List ℕ). wordAt t c j) (own-puts s core e)
-    ∙ puts-other (changes e (e .accumulated) (e .outcome)) (putValue s core e) core c j (changes-inside e (e .accumulated) (e .outcome)) n g
+own-other vectors s core e c j h n g =
+    ap (λ (t : List ℕ). wordAt t c j) (own-puts vectors s core e)
+    ∙ puts-other (changes vectors e (e .accumulated) (e .outcome)) (putValue s core e) core c j (changes-inside vectors e (e .accumulated) (e .outcome)) n g
     ∙ if-both (λ (t : List ℕ). wordAt t c j ≡ wordAt s c j) (eqb (e .place) 0) refl
     (getD-set-other s (core * stateWords + e .place) (c * stateWords + j) (e .value) 0 (λ z. n (omega arith)))
+
+-- ---- an exception goes to its vector
+
+vector-seen : (vectors : List ℕ) (e : Effect) (a : Accumulated) (x : Exception) (d : ℕ) → seen (changes vectors e a (Raised x)) pcAt d ≡ vector vectors (x .cause)
+vector-seen vectors e Kept x d = refl
+vector-seen vectors e (Became m) x d = refl
+
+pub own-vector : (vectors s : List ℕ) (core : ℕ) (e : Effect) (x : Exception) → core * stateWords + stateWords ≤ length s → e .outcome ≡ Raised x
+    → wordAt (ownState vectors s core e) core pcAt ≡ vector vectors (x .cause)
+own-vector vectors s core e x fits h =
+    let n : length (putValue s core e) ≡ length s = length-value s core e in
+    ap (λ (t : List ℕ). wordAt t core pcAt) (own-puts vectors s core e)
+    ∙ puts-seen (changes vectors e (e .accumulated) (e .outcome)) (putValue s core e) core pcAt (omega arith)
+    ∙ ap (λ (o : Outcome). seen (changes vectors e (e .accumulated) o) pcAt (wordAt (putValue s core e) core pcAt)) h
+    ∙ vector-seen vectors e (e .accumulated) x (wordAt (putValue s core e) core pcAt)
 
 -- ---- an accepted state stays accepted
 
@@ -219,9 +234,9 @@ module _ {board : Board} (s : List ℕ) (core : ℕ) (fits : core * stateWords +
           }
       go {p} {v} (to-picsr m) n = untouched picsrAt v n (λ z. omega arith) (λ z. omega arith) (λ z. omega arith)
 
-  changed : {picsr : ℕ} (e : Effect) → Lawful picsr e → {o : Outcome} → LawfulOutcome o → (t : List ℕ) → Value (wordAt t core)
-      → LawfulState board core (λ j. seen (changes e Kept o) j (wordAt t core j))
-  changed e l completes t v =
+  changed : (vectors : List ℕ) → LawfulVectors vectors → {picsr : ℕ} (e : Effect) → Lawful picsr e → {o : Outcome} → LawfulOutcome o → (t : List ℕ) → Value (wordAt t core)
+      → LawfulState board core (λ j. seen (changes vectors e Kept o) j (wordAt t core j))
+  changed vectors multiple e l completes t v =
       record {
         zero-register = v .zero-kept;
         flow-lawful = l .flow-lawful;
@@ -232,12 +247,12 @@ module _ {board : Board} (s : List ℕ) (core : ℕ) (fits : core * stateWords +
         mode-lawful = l .mode-lawful;
         mask-lawful = v .mask-kept;
       }
-  changed e l (raised {x} m q) t v =
+  changed vectors multiple e l (raised {x} m q) t v =
       record {
         zero-register = v .zero-kept;
         flow-lawful = record {
           delay-bit = l .flow-lawful .delay-bit;
-          pc-multiple = vector-multiple (x .cause);
+          pc-multiple = multiple (x .cause);
           target-multiple = l .flow-lawful .target-multiple;
           no-target = l .flow-lawful .no-target;
         };
@@ -249,25 +264,25 @@ module _ {board : Board} (s : List ℕ) (core : ℕ) (fits : core * stateWords +
         mask-lawful = v .mask-kept;
       }
 
-  pub own-accepted : {picsr : ℕ} (e : Effect) → Lawful picsr e → Accepted board (ownState s core e) core
+  pub own-accepted : (vectors : List ℕ) → LawfulVectors vectors → {picsr : ℕ} (e : Effect) → Lawful picsr e → Accepted board (ownState vectors s core e) core
   unfolding putValue
-  own-accepted e l =
+  own-accepted vectors multiple e l =
       let t = putValue s core e in
       let n : length t ≡ length s = length-value s core e in
-      lawful-same (λ j. seen (changes e Kept (e .outcome)) j (wordAt t core j)) (wordAt (ownState s core e) core)
+      lawful-same (λ j. seen (changes vectors e Kept (e .outcome)) j (wordAt t core j)) (wordAt (ownState vectors s core e) core)
       (λ j h t′.
-      ap (λ (u : List ℕ). wordAt u core j) (own-puts s core e) ∙ puts-seen (changes e (e .accumulated) (e .outcome)) t core j (omega arith)
-      ∙ unseen (e .accumulated) (exceptional (e .outcome)) j _ t′)
-      (changed e l (l .outcome-lawful) t (value-kept (e .place) (e .value) (l .word-lawful)))
+      ap (λ (u : List ℕ). wordAt u core j) (own-puts vectors s core e) ∙ puts-seen (changes vectors e (e .accumulated) (e .outcome)) t core j (omega arith)
+      ∙ unseen (e .accumulated) (exceptional vectors (e .outcome)) j _ t′)
+      (changed vectors multiple e l (l .outcome-lawful) t (value-kept (e .place) (e .value) (l .word-lawful)))
 
 -- ---- PICSR never grows
 
 -- nothing but the value is put there
-picsr-unseen : (e : Effect) (a : Accumulated) (o : Outcome) (d : ℕ) → seen (changes e a o) picsrAt d ≡ d
-picsr-unseen e Kept Completed d = refl
-picsr-unseen e Kept (Raised x) d = refl
-picsr-unseen e (Became m) Completed d = refl
-picsr-unseen e (Became m) (Raised x) d = refl
+picsr-unseen : (vectors : List ℕ) (e : Effect) (a : Accumulated) (o : Outcome) (d : ℕ) → seen (changes vectors e a o) picsrAt d ≡ d
+picsr-unseen vectors e Kept Completed d = refl
+picsr-unseen vectors e Kept (Raised x) d = refl
+picsr-unseen vectors e (Became m) Completed d = refl
+picsr-unseen vectors e (Became m) (Raised x) d = refl
 
 module _ (s : List ℕ) (core : ℕ) (fits : core * stateWords + stateWords ≤ length s) where
   value-picsr : (p v : ℕ) → LawfulWord (wordAt s core picsrAt) p v → wordAt (if eqb p 0 then s else put s core p v) core picsrAt ≤ wordAt s core picsrAt
@@ -286,12 +301,12 @@ module _ (s : List ℕ) (core : ℕ) (fits : core * stateWords + stateWords ≤ 
       go {p} {v} (to-picmr m) = rw (at picmrAt v) (le-refl _)
       go {p} {v} (to-picsr m) = rw (at picsrAt v) m
 
-  pub own-picsr : (e : Effect) → Lawful (wordAt s core picsrAt) e → wordAt (ownState s core e) core picsrAt ≤ wordAt s core picsrAt
+  pub own-picsr : (vectors : List ℕ) (e : Effect) → Lawful (wordAt s core picsrAt) e → wordAt (ownState vectors s core e) core picsrAt ≤ wordAt s core picsrAt
   unfolding putValue
-  own-picsr e l =
+  own-picsr vectors e l =
       let t = putValue s core e in
       let n : length t ≡ length s = length-value s core e in
-      let q : wordAt (ownState s core e) core picsrAt ≡ wordAt t core picsrAt =
-      ap (λ (u : List ℕ). wordAt u core picsrAt) (own-puts s core e) ∙ puts-seen (changes e (e .accumulated) (e .outcome)) t core picsrAt (omega arith)
-      ∙ picsr-unseen e (e .accumulated) (e .outcome) (wordAt t core picsrAt) in
+      let q : wordAt (ownState vectors s core e) core picsrAt ≡ wordAt t core picsrAt =
+      ap (λ (u : List ℕ). wordAt u core picsrAt) (own-puts vectors s core e) ∙ puts-seen (changes vectors e (e .accumulated) (e .outcome)) t core picsrAt (omega arith)
+      ∙ picsr-unseen vectors e (e .accumulated) (e .outcome) (wordAt t core picsrAt) in
       rw q (value-picsr (e .place) (e .value) (l .word-lawful))

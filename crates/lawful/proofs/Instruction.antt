@@ -15,7 +15,7 @@ use Rattle.isa.proofs.Registers.{fields-registers}
 use Rattle.memory.specs.Memory.{stored, memoryWord}
 use Rattle.memory.proofs.Laws.{length-stored, stored-outside, other-word-kept}
 use Rattle.effect.specs.State.{picsrAt}
-use Rattle.effect.specs.declared.types.Board.{Board}
+use Rattle.effect.specs.Board.{Board}
 use Rattle.effect.specs.declared.types.Effect.{Effect}
 use Rattle.commit.specs.Commit.{wordAt, inputs, writesMemory, touched, memoryAfter}
 use Rattle.semantics.specs.Meaning.{effectOf}

@@ -12,7 +12,6 @@ use borrow.Author.Tests.{ltb-false}
 use Rattle.bits.specs.Word.{bit, word}
 use Rattle.bits.proofs.Cases.{if-law, if-both}
 use Rattle.isa.specs.Register.{Register}
-use Rattle.isa.specs.Vectors.{vector}
 use Rattle.isa.specs.declared.vectors.Cause.{Cause}
 use Rattle.isa.specs.declared.vectors.Cause.the-variants.{Bus, Alignment, Illegal, Range, Syscall, Trap, Interrupt}
 use Rattle.isa.specs.Groups.{IsBranch}
@@ -29,7 +28,7 @@ use Rattle.product.specs.declared.Accumulator.{Accumulator}
 use Rattle.effect.specs.State.{epcrAt, eearAt, esrAt, machiAt, macloAt, picmrAt, picsrAt}
 use Rattle.effect.specs.Effect.{completing, inSlot, onward, advances, restart, exceptionPC, raises, faults, jumping, accumulating}
 use Rattle.effect.specs.declared.types.Inputs.{Inputs}
-use Rattle.effect.specs.declared.types.Board.{Board}
+use Rattle.effect.specs.Board.{Board}
 use Rattle.effect.specs.declared.types.Flow.{Flow}
 use Rattle.effect.specs.declared.types.Link.{Link}
 use Rattle.effect.specs.declared.types.Store.{Store}
@@ -48,15 +47,6 @@ difference-multiple a b ma mb =
     let f : 0 + b ≡ b = omega arith in
     rw (ap₂ _-ℤ_ (sub-zero a) (sub-zero b) ∙ sub-sub a 0 b 0 ∙ ap₂ subℕ e f)
     (by-sign a b (λ z. Multiple (word z)) (λ h. omega arith) (λ h. omega arith))
-
-pub vector-multiple : (c : Cause) → Multiple (vector c)
-vector-multiple Bus = refl
-vector-multiple Alignment = refl
-vector-multiple Illegal = refl
-vector-multiple Range = refl
-vector-multiple Syscall = refl
-vector-multiple Trap = refl
-vector-multiple Interrupt = refl
 
 -- what a write leaves in PICMR
 mask-again : (v : ℕ) → Mask (bitOr v 3)
@@ -210,17 +200,17 @@ module _ (x : Inputs) (i : LawfulInputs x) where
       is-running)
       faults-lawful
 
-  pub store-lawful : (board : Board) (len n : ℕ) → Lawful (x .picsr) (store board x len n)
+  pub store-lawful : (limit len n : ℕ) → Lawful (x .picsr) (store limit x len n)
   unfolding store
-  store-lawful board len n =
-      reaches-law (Lawful (x .picsr)) x n (board .limit) len
+  store-lawful limit len n =
+      reaches-law (Lawful (x .picsr)) x n limit len
       (λ g. completed-lawful (to-register (omega arith)) (i .sr-lawful) onward-lawful (i .link-lawful) is-running)
       faults-lawful
 
-  pub store-conditional-lawful : (board : Board) (len : ℕ) → Lawful (x .picsr) (storeConditional board x len)
+  pub store-conditional-lawful : (limit len : ℕ) → Lawful (x .picsr) (storeConditional limit x len)
   unfolding storeConditional
-  store-conditional-lawful board len =
-      reaches-law (Lawful (x .picsr)) x 4 (board .limit) len
+  store-conditional-lawful limit len =
+      reaches-law (Lawful (x .picsr)) x 4 limit len
       (λ g.
       completed-lawful (to-register (omega arith)) (allowed-flag (x .sr) (i .sr-lawful) (bit (linked x)) (bit-lt (linked x))) onward-lawful
       no-link-lawful is-running)
@@ -266,8 +256,8 @@ module _ (x : Inputs) (i : LawfulInputs x) where
         of-return = return-lawful;
         of-load = load-lawful mem;
         of-load-linked = load-linked-lawful mem;
-        of-store = λ w. store-lawful board (length mem) _;
-        of-store-conditional = store-conditional-lawful board (length mem);
+        of-store = λ w. store-lawful (board .limit) (length mem) _;
+        of-store-conditional = store-conditional-lawful (board .limit) (length mem);
         of-touch = touch-lawful (length mem);
         of-special = special-lawful;
       }

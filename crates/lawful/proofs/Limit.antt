@@ -13,7 +13,7 @@ use Rattle.memory.proofs.Laws.{misaligned, below-limit}
 use Rattle.effect.specs.State.{stateWords}
 use Rattle.effect.specs.Effect.{raises, faults}
 use Rattle.effect.specs.declared.types.Inputs.{Inputs}
-use Rattle.effect.specs.declared.types.Board.{Board}
+use Rattle.effect.specs.Board.{Board}
 use Rattle.effect.specs.declared.types.Effect.{Effect}
 use Rattle.action.specs.Operations.{effectiveAddress, reaches, store, storeConditional}
 use Rattle.commit.specs.Commit.{wordAt, memoryAfter, statesAfter}
@@ -56,6 +56,6 @@ module _ (x : Inputs) (cause : Cause) (eear : ℕ) where
   unfolding raises
   fault-memory mem = no-store-kept mem (faults x cause eear) refl
 
-  pub fault-others : (s : List ℕ) (core c j : ℕ) → (c ≡ core → ⊥) → j < stateWords → wordAt (statesAfter s core (faults x cause eear)) c j ≡ wordAt s c j
+  pub fault-others : (vectors s : List ℕ) (core c j : ℕ) → (c ≡ core → ⊥) → j < stateWords → wordAt (statesAfter vectors s core (faults x cause eear)) c j ≡ wordAt s c j
   unfolding statesAfter raises
-  fault-others s core c j n h = own-other s core (faults x cause eear) c j (omega arith) n h
+  fault-others vectors s core c j n h = own-other vectors s core (faults x cause eear) c j (omega arith) n h

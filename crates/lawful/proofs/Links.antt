@@ -12,7 +12,7 @@ use Rattle.bits.proofs.Cases.{if-both, by-equality}
 use Rattle.effect.specs.State.{stateWords, linkAt, linkAddressAt}
 use Rattle.effect.specs.Effect.{noLink}
 use Rattle.effect.specs.declared.types.Link.{Link}
-use Rattle.effect.specs.declared.types.Board.{Board}
+use Rattle.effect.specs.Board.{Board}
 use Rattle.commit.specs.Commit.{wordAt, coreCount, clearLink, clearLinks}
 use Rattle.lawful.specs.Accepted.{Accepted, AllAccepted}
 use Rattle.lawful.proofs.Lawful.{no-link-lawful}

@@ -20,7 +20,7 @@ use Rattle.product.specs.declared.Accumulator.{Accumulator}
 use Rattle.effect.specs.State.{stateWords, epcrAt, eearAt, esrAt, machiAt, macloAt, picmrAt, picsrAt}
 use Rattle.effect.specs.Effect.{inSlot, advances, raises, faults, accumulating}
 use Rattle.effect.specs.declared.types.Inputs.{Inputs}
-use Rattle.effect.specs.declared.types.Board.{Board}
+use Rattle.effect.specs.Board.{Board}
 use Rattle.action.specs.Operations.{nop, setsFlag, syscall, resultOrRaises, divides, jump, branch, registerJump, returns, load, loadLinked, storing, store, linked, storeConditional, touch, setsSpecialRegister, effectiveAddress}
 use Rattle.semantics.specs.Meaning.{meaning}
 use Rattle.lawful.specs.Inner.{Sound, InWord, SoundStore, none, some}
@@ -88,12 +88,12 @@ module _ (board : Board) (len : ℕ) (x : Inputs) where
         in-word = granted-in-word n (board .limit) len at g w;
       }
 
-  pub store-sound : {n : ℕ} → Width n → Sound board len (store board x len n)
+  pub store-sound : {n : ℕ} → Width n → Sound board len (store (board .limit) x len n)
   unfolding store
   store-sound {n} w =
       reaches-law (Sound board len) x n (board .limit) len (λ g. record { place-lt = omega arith; sound-store = some (storing-in-word w g) }) faults-sound
 
-  pub store-conditional-sound : Sound board len (storeConditional board x len)
+  pub store-conditional-sound : Sound board len (storeConditional (board .limit) x len)
   unfolding storeConditional
   store-conditional-sound =
       reaches-law (Sound board len) x 4 (board .limit) len

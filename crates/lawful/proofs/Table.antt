@@ -18,7 +18,7 @@ use Rattle.product.specs.declared.Accumulator.{Accumulator}
 use Rattle.product.proofs.Products.{product-ranged, product-unsigned-ranged}
 use Rattle.memory.specs.Memory.{Width, byte-wide, half-wide, word-wide}
 use Rattle.effect.specs.declared.types.Inputs.{Inputs}
-use Rattle.effect.specs.declared.types.Board.{Board}
+use Rattle.effect.specs.Board.{Board}
 use Rattle.effect.specs.declared.types.Effect.{Effect}
 use Rattle.action.specs.Operations.{writes, nothing, setsFlag, nop, illegal, trap, syscall, resultOrRaises, divides, accumulates, readsAccumulator, jump, relative, branch, registerJump, returns, load, loadLinked, store, storeConditional, touch, setsSpecialRegister}
 use Rattle.semantics.specs.Meaning.{branches, nopMovhi, control, loads, addImmediates, immediates, stores, arithmetic, logic, caches, products, meaning}
@@ -42,8 +42,8 @@ pub record Lines (P : Effect → Type 0) (J : Type 0) (board : Board) (mem : Lis
   pub of-return : P (returns x)
   pub of-load : (n : ℕ) (sign : Bool) → P (load x mem n sign)
   pub of-load-linked : P (loadLinked x mem)
-  pub of-store : {n : ℕ} → Width n → P (store board x (length mem) n)
-  pub of-store-conditional : P (storeConditional board x (length mem))
+  pub of-store : {n : ℕ} → Width n → P (store (board .limit) x (length mem) n)
+  pub of-store-conditional : P (storeConditional (board .limit) x (length mem))
   pub of-touch : P (touch x (length mem))
   pub of-special : (n v : ℕ) → P (setsSpecialRegister x n v)
 
@@ -96,7 +96,7 @@ module _ (P : Effect → Type 0) (J : Type 0) (board : Board) (mem : List ℕ) (
       if-both P (eqb k 24) (l .of-result _ (sum-ranged (x .a) (x .immediate) (bitAt CY (x .sr)))) (
       l .of-illegal))
 
-  immediates-have : (k : ℕ) → P (immediates board k x)
+  immediates-have : (k : ℕ) → P (immediates (board .cores) k x)
   unfolding immediates
   immediates-have k =
       if-both P (eqb k 25) (l .of-writes _) (
@@ -109,7 +109,7 @@ module _ (P : Effect → Type 0) (J : Type 0) (board : Board) (mem : List ℕ) (
       if-both P (eqb k 32) (l .of-writes _) (
       l .of-illegal))))))))
 
-  stores-have : (k : ℕ) → P (stores board (length mem) k x)
+  stores-have : (k : ℕ) → P (stores (board .limit) (length mem) k x)
   unfolding stores
   stores-have k =
       if-both P (eqb k 43) (l .of-special _ _) (

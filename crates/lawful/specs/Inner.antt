@@ -1,13 +1,16 @@
 -- Helper of the laws. The rules of a state (effect/specs/State.antt) as facts on its parts, what of them an instruction reads and its effect keeps, and
 -- where an effect may write.
+use mathlib.Core.List.{List}
 use mathlib.Core.Path.{_≡_}
 use Prim.Native.Nat.{ℕ, _+_, _%_, _<_, _≤_}
 use Rattle.isa.specs.Register.{Register}
+use Rattle.isa.specs.Vectors.{vector}
+use Rattle.isa.specs.declared.vectors.Cause.{Cause}
 use Rattle.arith.specs.Status.{allowed}
 use Rattle.memory.specs.Memory.{Width}
 use Rattle.effect.specs.State.{stateWords, pcAt, delayAt, targetAt, srAt, epcrAt, eearAt, esrAt, linkAt, linkAddressAt, modeAt, machiAt, macloAt, picmrAt, picsrAt, halted, running}
 use Rattle.effect.specs.declared.types.Inputs.{Inputs}
-use Rattle.effect.specs.declared.types.Board.{Board}
+use Rattle.effect.specs.Board.{Board}
 use Rattle.effect.specs.declared.types.Flow.{Flow}
 use Rattle.effect.specs.declared.types.Link.{Link}
 use Rattle.effect.specs.declared.types.Exception.{Exception}
@@ -23,6 +26,10 @@ Status x = allowed x ≡ x
 -- "PC, target, EPCR and link address are multiples of 4"
 abbrev pub Multiple : ℕ → Type 0
 Multiple x = x % 4 ≡ 0
+
+-- so is every vector of a list: document 02, note 6, "Addresses are multiples of 4"
+abbrev pub LawfulVectors : List ℕ → Type 0
+LawfulVectors vectors = (cause : Cause) → Multiple (vector vectors cause)
 
 -- "33: delay, 1 if that instruction is in a delay slot, else 0." "target is 0 if delay is 0"
 pub record LawfulFlow (f : Flow) : Type 0 where
@@ -82,7 +89,7 @@ pub data LawfulOutcome : Outcome → Type 0 where
   completes : LawfulOutcome Completed
   raised : {x : Exception} → Multiple (x .epcr) → Status (x .esr) → LawfulOutcome (Raised x)
 
--- all that an effect on a state with that PICSR names obeys the rules (the vector of an exception, where PC goes at the commit, is a multiple of 4 by the table)
+-- all that an effect on a state with that PICSR names obeys the rules (the vector of an exception, where PC goes at the commit, is the list's)
 pub record Lawful (picsr : ℕ) (e : Effect) : Type 0 where
   pub word-lawful : LawfulWord picsr (e .place) (e .value)
   pub flow-lawful : LawfulFlow (e .flow)

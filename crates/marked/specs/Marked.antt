@@ -8,7 +8,7 @@ use Rattle.bits.specs.Choice.{if_then_else_}
 use Rattle.bits.specs.Word.{field}
 use Rattle.isa.specs.InstructionSet.{decode}
 use Rattle.codec.specs.Encoding.{encode, number}
-use Rattle.isa.specs.Vectors.{vector}
+use Rattle.isa.specs.Vectors.{oldVector, oldVectors}
 use Rattle.isa.specs.declared.vectors.Cause.{Cause}
 use Rattle.isa.specs.declared.vectors.Cause.the-variants.{Bus, Alignment}
 use Rattle.arith.specs.Sums.{sum, difference}
@@ -45,7 +45,7 @@ same a b = if a then b else if b then false else true
 -- the vector of an exception, by which causes are told apart; 0 is none
 abbrev vectorOf : Option Cause → ℕ
 vectorOf none = 0
-vectorOf (some cause) = vector cause
+vectorOf (some cause) = oldVector cause
 
 abbrev zeros : ℕ → List ℕ
 zeros zero = []
@@ -59,7 +59,7 @@ reset r3 = put (put (put (put (put (zeros stateWords) 0 pcAt 0x100) 0 srAt 0x800
 abbrev executed : List ℕ → List ℕ → List ℕ → List ℕ
 executed mem s [] = s
 executed mem s (w ∷ ws) =
-    let e = effectOf (record { cores = 1; limit = noLimit }) mem s 0 (decode w) in executed (memoryAfter mem e) (statesAfter s 0 e) ws
+    let e = effectOf (record { cores = 1; limit = noLimit; vectors = oldVectors }) mem s 0 (decode w) in executed (memoryAfter mem e) (statesAfter oldVectors s 0 e) ws
 
 -- the definitions agree with the example
 abbrev pub right : Example → Bool
@@ -110,9 +110,9 @@ marked =
     access-is 4 4096 4094 (some Alignment) ∷
     access-is 4 4096 4096 (some Bus) ∷
     run-leaves 4096 4092 (lwz ∷ []) pcAt 0x104 ∷  -- M11 through the step
-    run-leaves 4096 4094 (lwz ∷ []) pcAt (vector Alignment) ∷
+    run-leaves 4096 4094 (lwz ∷ []) pcAt (oldVector Alignment) ∷
     run-leaves 4096 4094 (lwz ∷ []) eearAt 4094 ∷
-    run-leaves 4096 4096 (lwz ∷ []) pcAt (vector Bus) ∷
+    run-leaves 4096 4096 (lwz ∷ []) pcAt (oldVector Bus) ∷
     run-leaves 4096 0 (untakenBranch ∷ illegalWord ∷ []) epcrAt 0x100 ∷  -- M12
     run-leaves 4096 0 (untakenBranch ∷ illegalWord ∷ []) srAt (0x8001 + 2 ^ DSX) ∷
     []

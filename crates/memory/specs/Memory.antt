@@ -38,7 +38,7 @@ noLimit = 0
 -- One instruction: "Loads, stores and p.*: alignment first (words 4, halves 2), then bus error if any byte is outside." Document 02, note 5: "Any
 -- store or l.swa reaching below it raises bus error after alignment": its lowest byte, the one at `at`, is below the limit, which is the run's for
 -- stores and l.swa, and noLimit for loads, l.lwa and p.*. The cause of the exception that an access to a memory of len bytes raises, if it raises
--- one; its vector is isa's. The sum is exact: an access past the highest address does not go on at address 0
+-- one; its vector is the run's. The sum is exact: an access past the highest address does not go on at address 0
 unfoldable pub access : ℕ → ℕ → ℕ → ℕ → Option Cause
 access n limit len at =
     if ltb 0 (at % n) then some Alignment else

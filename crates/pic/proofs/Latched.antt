@@ -10,7 +10,7 @@ use lib.ListN.{length, length-set}
 use lib.Seq.{getD-set-other, set-getD}
 use borrow.Author.Tests.{eq-eqb}
 use Rattle.effect.specs.State.{stateWords, picsrAt}
-use Rattle.effect.specs.declared.types.Board.{Board}
+use Rattle.effect.specs.Board.{Board}
 use Rattle.commit.specs.Commit.{wordAt}
 use Rattle.lawful.specs.Accepted.{AllAccepted}
 use Rattle.lawful.proofs.Commit.{ruled, lawful-same}

@@ -20,6 +20,6 @@ latched s core lines = put s core picsrAt (bitOr (wordAt s core picsrAt) (bitAnd
 unfoldable pub isInterrupted : List ℕ → ℕ → Bool
 isInterrupted s core = not (eqb (wordAt s core picsrAt) 0) && (isSet IEE (wordAt s core srAt) && eqb (wordAt s core delayAt) 0)
 
--- ".. the step takes vector 800 in place of a fetch, with EPCR = PC and EEAR kept"
+-- ".. the step takes vector 800 in place of a fetch, with EPCR = PC and EEAR kept" (800 in the old list; by note 6 the list's vector of interrupts)
 abbrev pub interruption : List ℕ → ℕ → Effect
 interruption s core = faults (inputs s core noFields) Interrupt (wordAt s core eearAt)

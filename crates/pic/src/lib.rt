@@ -3,6 +3,7 @@ ghost use mathlib.Core.List.{List};
 ghost use mathlib.Core.Path.{_≡_};
 ghost use Prim.Native.Nat.{ℕ, _+_, _*_, _≤_, _<_};
 ghost use lib.ListN.{length};
+ghost use Rattle.isa.specs.Vectors.{vectorCount};
 ghost use Rattle.effect.specs.State.{stateWords};
 ghost use Rattle.effect.specs.Effect.{noStore};
 ghost use Rattle.commit.specs.Commit.{coreCount};
@@ -89,14 +90,15 @@ pub fn latch(states: &mut [u32], core: usize, lines: u32) -> bool
 }
 
 // Takes the interrupt, which leaves memory and keeps EEAR; answers how the step ends.
-pub fn take(states: &mut [u32], core: usize) -> Outcome
+pub fn take(vectors: &[u32], states: &mut [u32], core: usize) -> Outcome
     requires { ⌜ core * stateWords + stateWords ≤ length (now states) ⌝ }
     requires { ⌜ core < 4 ⌝ }
-    ensures { λ r. ⌜ ((mem : List ℕ) → Executed mem (now (states .entry)) core (interruption (now (states .entry)) core) mem (now (states .exit)) (tells r noStore)) ⌝ }
+    requires { ⌜ length (now vectors) ≡ vectorCount ⌝ }
+    ensures { λ r. ⌜ ((mem : List ℕ) → Executed (now (vectors .entry)) mem (now (states .entry)) core (interruption (now (states .entry)) core) mem (now (states .exit)) (tells r noStore)) ⌝ }
 {
     let fault = Faulted {
         cause: Cause::Interrupt,
         eear: states[core * state::STATE_WORDS + state::EEAR],
     };
-    exec::raise(states, core, fault)
+    exec::raise(vectors, states, core, fault)
 }

@@ -6,17 +6,18 @@ use native.Mathlib.Omega.{arith}
 use borrow.Author.Tests.{eq-eqb, le-leb}
 use lib.Dec.{T, eqb, leb, ltb, lit<}
 use lib.ListN.{length, getD, replicate, length-replicate}
+use Rattle.bits.proofs.Every.{of-below}
+use Rattle.vector_list.specs.Rules.{vectorsFit}
 use Rattle.bits.proofs.Tests.{and-left, and-right, and-both, T-of}
 use Rattle.arith.specs.Status.{allowed, only}
 use Rattle.effect.specs.State.{stateWords, pcAt, delayAt, targetAt, srAt, epcrAt, esrAt, linkAt, linkAddressAt, modeAt, picmrAt}
-use Rattle.effect.specs.declared.types.Board.{Board}
+use Rattle.effect.specs.Board.{Board}
 use Rattle.commit.specs.Commit.{wordAt, coreCount}
 use Rattle.lawful.specs.Inner.{Mode, is-running}
 use Rattle.lawful.specs.Accepted.{accepted}
 use Rattle.lawful.proofs.Accepted.{means-accepted}
 use Rattle.refusal.specs.Lent.{boardOf}
 use Rattle.refusal.specs.Refusal.{everyFrom, memoryFits, statesFit, statesObey, maxSchedule, scheduleFits, namesCores, levelsFit, limitFits, cacheFits, entryRight, entriesRight, fastRefusal}
-use Rattle.refusal.proofs.Tests.{of-below}
 use Rattle.refusal.proofs.Passes.{none-refused}
 use Rattle.card.specs.Card.{Job, every}
 use Rattle.card.specs.Answer.{Sound}
@@ -102,8 +103,8 @@ states-fit n m l h =
     let k = n / stateWords in
     and-both (eqb (n % stateWords) 0) _ (equal (n % stateWords) 0 m) (and-both (leb 1 k) (leb k 4) (below 1 k l) (below k 4 h))
 
-module _ (j : Job) (h : Sound j) where
-  pub job-accepted : fastRefusal (lentBy j) (emptyCache j) ≡ 0
+module _ (vectors : List ℕ) (f : T (vectorsFit vectors)) (j : Job) (h : Sound j) where
+  pub job-accepted : fastRefusal (lentBy vectors j) (emptyCache j) ≡ 0
   unfolding scheduleFits namesCores levelsFit limitFits cacheFits entriesRight
   job-accepted =
       let m : length (memoryOf j) ≡ j .memory = length-memory j in
@@ -111,18 +112,19 @@ module _ (j : Job) (h : Sound j) where
       let n : length (scheduleOf j) ≡ j .steps = length-entries (j .schedule) (j .steps) in
       let c : length (statesOf j) / stateWords ≡ j .cores = omega arith in
       let e : length (emptyCache j) ≡ length (memoryOf j) / 4 = length-replicate (j .memory / 4) 0 ∙ ap (λ (k : ℕ). k / 4) (sym m) in
-      none-refused (lentBy j) (emptyCache j)
+      none-refused (lentBy vectors j) (emptyCache j)
       (record {
         memory-fits = rw m (memory-fits (j .memory) (h .memory-low) (h .memory-high) (h .memory-multiple));
         states-fit = states-fit (length (statesOf j)) (omega arith) (omega (arith, h .cores-low)) (omega (arith, h .cores-high));
-        states-obey = reset-obeys (j .entry) (j .cores) (h .entry-multiple) (boardOf (lentBy j));
+        states-obey = reset-obeys (j .entry) (j .cores) (h .entry-multiple) (boardOf (lentBy vectors j));
         schedule-fits = below (length (scheduleOf j)) maxSchedule (omega (arith, h .steps-high));
         names-cores =
             rw c (every-from (j .cores) (scheduleOf j) 0 (every-entry (λ d. ltb d (j .cores)) (j .schedule) (j .steps) (omega (arith, h .digits-low)) (h .cores-named)));
         levels-fit = equal (length (levelsOf j)) (length (scheduleOf j)) (length-replicate (j .steps) 0 ∙ sym n);
         limit-fits = below 0 (length (memoryOf j)) (omega arith);
+        vectors-fit = f;
       })
       (record {
         cache-fits = equal (length (emptyCache j)) (length (memoryOf j) / 4) e;
-        entries-right = empty-right (boardOf (lentBy j)) (memoryOf j) (j .memory / 4) 0;
+        entries-right = empty-right (boardOf (lentBy vectors j)) (memoryOf j) (j .memory / 4) 0;
       })

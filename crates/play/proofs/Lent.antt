@@ -1,10 +1,12 @@
--- What a good card's run is lent: the first parts of five arrays, at limit 0. Assumes nothing.
+-- What a good card's run is lent: the first parts of five arrays, at limit 0, and the vectors. Assumes nothing.
 use mathlib.Core.Path.{_≡_, ap, _∙_}
 use mathlib.Core.List.{List}
 use Prim.Native.Nat.{ℕ, _*_, _/_, _≤_}
 use native.Mathlib.Omega.{arith}
+use lib.Dec.{T}
 use lib.ListN.{length, take, replicate}
 use lib.Seq.{sets}
+use Rattle.vector_list.specs.Rules.{vectorsFit}
 use Rattle.effect.specs.State.{stateWords}
 use Rattle.text.proofs.Stores.{take-sets}
 use Rattle.refusal.specs.Lent.{Lent, lent}
@@ -24,7 +26,7 @@ use Rattle.play.proofs.Accepted.{job-accepted}
 abbrev pub cacheWords : ℕ
 cacheWords = imageLength / 4
 
-module _ (card : List ℕ) (j : Job) (image s₀ s t₀ t : List ℕ) (r : Ready card j image)
+module _ (vectors : List ℕ) (f : T (vectorsFit vectors)) (card : List ℕ) (j : Job) (image s₀ s t₀ t : List ℕ) (r : Ready card j image)
     (hs : j .cores * stateWords ≤ length s₀) (es : s ≡ sets s₀ 0 (resetStates (j .entry) (j .cores)))
     (ht : j .steps ≤ length t₀) (et : t ≡ sets t₀ 0 (entries (scheduleAt card j) (j .steps))) where
   memory-part : take (j .memory) image ≡ memoryOf (jobAt card j)
@@ -48,18 +50,18 @@ module _ (card : List ℕ) (j : Job) (image s₀ s t₀ t : List ℕ) (r : Ready
 
   -- what the run is lent
   abbrev parts : Lent
-  parts = lent (take (j .memory) image) (take (j .cores * stateWords) s) (take (j .steps) t) (take (j .steps) (replicate maxSteps 0)) 0
+  parts = lent (take (j .memory) image) (take (j .cores * stateWords) s) (take (j .steps) t) (take (j .steps) (replicate maxSteps 0)) 0 vectors
 
   abbrev cache : List ℕ
   cache = take (j .memory / 4) (replicate cacheWords 0)
 
   -- a run of these parts is the job's
-  as-lent : {A : Type 0} (f : Lent → List ℕ → A) → f parts cache ≡ f (lentBy (jobAt card j)) (emptyCache (jobAt card j))
-  as-lent f = rw (memory-part, states-part, schedule-part, levels-part, cache-part)
+  as-lent : {A : Type 0} (g : Lent → List ℕ → A) → g parts cache ≡ g (lentBy vectors (jobAt card j)) (emptyCache (jobAt card j))
+  as-lent g = rw (memory-part, states-part, schedule-part, levels-part, cache-part)
 
   pub lent-accepted : fastRefusal parts cache ≡ 0
-  lent-accepted = as-lent fastRefusal ∙ job-accepted (jobAt card j) (says-sound card (jobAt card j) (r .says))
+  lent-accepted = as-lent fastRefusal ∙ job-accepted vectors f (jobAt card j) (says-sound card (jobAt card j) (r .says))
 
-  pub lent-text : runText parts cache ≡ jobText (jobAt card j)
+  pub lent-text : runText parts cache ≡ jobText vectors (jobAt card j)
   unfolding jobText
   lent-text = as-lent runText

@@ -5,7 +5,7 @@ use mathlib.Core.List.{List, _++_}
 use Prim.Native.Nat.{ℕ, _+_, _-_, _/_, _≤_, _<_}
 use native.Mathlib.Omega.{arith}
 use borrow.Author.Tests.{eq-eqb, le-ltb}
-use lib.Dec.{ltb}
+use lib.Dec.{T, ltb}
 use lib.ListN.{length, take, drop, length-append, length-drop}
 use Rattle.effect.specs.State.{stateWords}
 use Rattle.refusal.specs.Lent.{Lent, Left}
@@ -20,7 +20,7 @@ use Rattle.engine.specs.declared.answer.Answer.{Answer}
 use Rattle.engine.specs.declared.answer.Answer.the-variants.{Ran, Refused}
 use Rattle.engine.proofs.Answers.{fast-runnable}
 use Rattle.text.proofs.Stores.{take-sets}
-use Rattle.card.specs.Card.{Job, good, cardSays}
+use Rattle.card.specs.Card.{Job, Verdict, good, cardSays}
 use Rattle.card.specs.Answer.{refusal, told, answered, jobAt, Bounds}
 use Rattle.card.specs.declared.Cause.{Cause}
 use Rattle.card.specs.declared.Job as code
@@ -35,7 +35,14 @@ use Rattle.report.specs.Result.{resultText, refusalText, cores}
 use Rattle.report.specs.declared.Written.{Written}
 use Rattle.report.specs.declared.Written.the-variants.{Bytes, TooSmall}
 use Rattle.report.proofs.Room.{too-small}
-use Rattle.play.specs.Output.{runText, jobText, verdictText, output}
+use Rattle.vector_list.specs.Rules.{vectorsFit}
+use Rattle.vectors_file.specs.File.{File, vectorsSay}
+use Rattle.vectors_file.specs.Answer.{toldOf, told as toldVectors, answered as answeredVectors}
+use Rattle.vectors_file.specs.declared.Reading as vectors
+use Rattle.vectors_file.specs.declared.Outcome.{Outcome}
+use Rattle.vectors_file.specs.declared.Outcome.the-variants as outcome
+use Rattle.vectors_file.proofs.Laws.{good-fits}
+use Rattle.play.specs.Output.{runText, jobText, verdictText, cardText, output}
 use Rattle.play.specs.Answer.{outputRoom, Among, Printed}
 use Rattle.play.specs.Inner.{Ready}
 
@@ -81,17 +88,17 @@ module _ {card image image′ : List ℕ} {r : Reading} (l : length image ≡ im
   says : told r ≡ answered card (cardSays card)
   says = h .says ∙ ap (answered card) (right-image card image l)
 
-  pub bad-output : (cause : Cause) (line : ℕ) → r ≡ Bad cause line → refusalText (refusal cause) line ≡ output card
-  unfolding output verdictText
-  bad-output cause line e = ap verdictText (sym (bad-says card (ap told (sym e) ∙ says)))
+  pub bad-output : (cause : Cause) (line : ℕ) → r ≡ Bad cause line → (vectors : List ℕ) → refusalText (refusal cause) line ≡ cardText card vectors
+  unfolding cardText
+  bad-output cause line e vectors = ap (verdictText (jobText vectors)) (sym (bad-says card (ap told (sym e) ∙ says)))
 
   module _ (j : code.Job) (e : r ≡ Good j) where
     good-says : cardSays card ≡ good (jobAt card j)
     good-says = card-says card j (ap told (sym e) ∙ says)
 
-    pub good-output : jobText (jobAt card j) ≡ output card
-    unfolding output verdictText
-    good-output = ap verdictText (sym good-says)
+    pub good-output : (vectors : List ℕ) → jobText vectors (jobAt card j) ≡ cardText card vectors
+    unfolding cardText
+    good-output vectors = ap (verdictText (jobText vectors)) (sym good-says)
 
     pub ready : length image′ ≡ imageLength → Ready card j image′
     ready m =
@@ -108,3 +115,24 @@ module _ {card image image′ : List ℕ} {r : Reading} (l : length image ≡ im
 
 pub printed-as : {text text′ out out′ : List ℕ} {r : Written} → text ≡ text′ → Printed text out out′ r → Printed text′ out out′ r
 printed-as {out = out} {out′ = out′} {r = r} e p = subst (λ (t : List ℕ). Printed t out out′ r) e p
+
+-- ---- a file of vectors that was read
+
+module _ (file : File) (r : vectors.Reading) (h : toldVectors r ≡ answeredVectors (vectorsSay file)) where
+  file-says : {o : Outcome} → r .outcome ≡ o → vectorsSay file ≡ toldOf o (r .list)
+  file-says e = sym (ap (λ (p : Verdict (List ℕ) × List ℕ). p .0) h) ∙ ap (λ (o : Outcome). toldOf o (r .list)) e
+
+  pub bad-list-output : (cause : Cause) (line : ℕ) → r .outcome ≡ outcome.Bad cause line → (card : List ℕ) → refusalText (refusal cause) line ≡ output file card
+  unfolding output
+  bad-list-output cause line e card = ap (verdictText (cardText card)) (sym (file-says e))
+
+  module _ (e : r .outcome ≡ outcome.Good) where
+    list-says : vectorsSay file ≡ good (r .list)
+    list-says = file-says e
+
+    pub list-fits : T (vectorsFit (r .list))
+    list-fits = good-fits file (r .list) list-says
+
+    pub list-output : (card : List ℕ) → cardText card (r .list) ≡ output file card
+    unfolding output
+    list-output card = ap (verdictText (cardText card)) (sym list-says)

@@ -1,5 +1,5 @@
 -- The output of the runner: document 01, "The run card", "The runner reads a card on standard input, makes a fast run from an empty table and
--- prints counts, a line for each core, .."
+-- prints counts, a line for each core, .."; document 02, note 6, on the file of vectors that it reads before the card.
 use mathlib.Core.List.{List}
 use Prim.Native.Nat.{ℕ, _/_}
 use lib.ListN.{replicate}
@@ -8,6 +8,7 @@ use Rattle.steps.specs.Plain.{plainRun}
 use Rattle.steps.specs.History.{history}
 use Rattle.steps.specs.declared.counts.Counts.{Counts}
 use Rattle.card.specs.Card.{Job, Verdict, good, refused, cardSays}
+use Rattle.vectors_file.specs.File.{File, vectorsSay}
 use Rattle.job.specs.Job.{memoryOf, entries, resetStates}
 use Rattle.report.specs.Result.{resultText, refusalText}
 
@@ -33,18 +34,22 @@ runCounts l cache = record { executed = plainRun l .executed; raised = plainRun 
 unfoldable pub runText : Lent → List ℕ → List ℕ
 runText l cache = resultText (runCounts l cache) (plainRun l .states)
 
--- what a good card's run is lent. Document 02, note 5: "the card runner uses 0"
-abbrev pub lentBy : Job → Lent
-lentBy j = lent (memoryOf j) (statesOf j) (scheduleOf j) (levelsOf j) 0
+-- what a good card's run is lent, with the list of vectors. Document 02, note 5: "the card runner uses 0"; note 6: "Each run uses one list throughout"
+abbrev pub lentBy : List ℕ → Job → Lent
+lentBy vectors j = lent (memoryOf j) (statesOf j) (scheduleOf j) (levelsOf j) 0 vectors
 
-unfoldable pub jobText : Job → List ℕ
-jobText j = runText (lentBy j) (emptyCache j)
+unfoldable pub jobText : List ℕ → Job → List ℕ
+jobText vectors j = runText (lentBy vectors j) (emptyCache j)
 
--- "a bad card prints `refused=9 line=3`"
-unfoldable pub verdictText : Verdict Job → List ℕ
-verdictText (good j) = jobText j
-verdictText (refused number line) = refusalText number line
+-- the text of something read: what is printed of a good one; "a bad card prints `refused=9 line=3`"
+abbrev pub verdictText : {A : Type 0} → (A → List ℕ) → Verdict A → List ℕ
+verdictText text (good a) = text a
+verdictText text (refused number line) = refusalText number line
 
--- what the runner prints for a card's bytes
-unfoldable pub output : List ℕ → List ℕ
-output card = verdictText (cardSays card)
+-- what is printed for a card's bytes
+unfoldable pub cardText : List ℕ → List ℕ → List ℕ
+cardText card vectors = verdictText (jobText vectors) (cardSays card)
+
+-- what the runner prints for a file of vectors and a card's bytes. Document 02, note 6: "It is read before the card, ..; faults are 9 and 10 and print alike."
+unfoldable pub output : File → List ℕ → List ℕ
+output file card = verdictText (cardText card) (vectorsSay file)

@@ -8,12 +8,13 @@ use lib.Dec.{T, eqb, leb, leb→le}
 use lib.ListN.{length}
 use Rattle.bits.proofs.Tests.{and-left, and-right, T-of}
 use Rattle.bits.proofs.Cases.{by-equality}
+use Rattle.vector_list.specs.Rules.{vectorsFit}
 use Rattle.effect.specs.State.{stateWords}
 use Rattle.commit.specs.Commit.{coreCount}
 use Rattle.refusal.specs.Lent.{Lent, boardOf}
 use Rattle.refusal.specs.Refusal.{memoryFits, statesFit, statesObey, scheduleFits, namesCores, levelsFit, limitFits, cacheFits, entriesRight, runRules, cacheRules, firstBroken, plainRefusal, fastRefusal, refusalNumber}
 use Rattle.refusal.specs.declared.cause.Refusal.{Refusal}
-use Rattle.refusal.specs.declared.cause.Refusal.the-variants.{MemoryLength, StatesLength, StateRule, ScheduleLength, NoSuchCore, LevelsLength, ReadOnlyLimit, CacheLength, CacheEntry}
+use Rattle.refusal.specs.declared.cause.Refusal.the-variants.{MemoryLength, StatesLength, StateRule, ScheduleLength, NoSuchCore, LevelsLength, ReadOnlyLimit, VectorList, CacheLength, CacheEntry}
 use Rattle.refusal.proofs.Tests.{each-passes, none-broken, broken-before, broken-after}
 
 -- what both runs accept
@@ -25,6 +26,7 @@ pub record Passes (l : Lent) : Type 0 where
   pub names-cores : T (namesCores (coreCount (l .states)) (l .schedule))
   pub levels-fit : T (levelsFit (length (l .schedule)) (length (l .levels)))
   pub limit-fits : T (limitFits (length (l .memory)) (l .limit))
+  pub vectors-fit : T (vectorsFit (l .vectors))
 
 -- and the fast run, of the decode cache
 pub record CachePasses (l : Lent) (cache : List ℕ) : Type 0 where
@@ -44,13 +46,14 @@ module _ (l : Lent) where
         names-cores = t .1 .1 .1 .1 .0;
         levels-fit = t .1 .1 .1 .1 .1 .0;
         limit-fits = t .1 .1 .1 .1 .1 .1 .0;
+        vectors-fit = t .1 .1 .1 .1 .1 .1 .1 .0;
       }
 
   none-broken-of : Passes l → plainRefusal l ≡ 0
   unfolding plainRefusal
   none-broken-of p =
       none-broken (runRules l)
-      (p .memory-fits, (p .states-fit, (p .states-obey, (p .schedule-fits, (p .names-cores, (p .levels-fit, (p .limit-fits, tt)))))))
+      (p .memory-fits, (p .states-fit, (p .states-obey, (p .schedule-fits, (p .names-cores, (p .levels-fit, (p .limit-fits, (p .vectors-fit, tt))))))))
 
   module _ (cache : List ℕ) where
     -- what the fast run accepts the plain run accepts
@@ -87,6 +90,7 @@ cause-number ScheduleLength h = omega arith
 cause-number NoSuchCore h = omega arith
 cause-number LevelsLength h = omega arith
 cause-number ReadOnlyLimit h = omega arith
+cause-number VectorList h = omega arith
 cause-number CacheLength h = omega arith
 cause-number CacheEntry h = omega arith
 

@@ -11,50 +11,21 @@ use lib.ListN.{length, getD, take, drop, drop-of-length-le}
 use lib.Seq.{drop-cons}
 use Rattle.bits.specs.Choice.{if_then_else_}
 use Rattle.bits.proofs.Tests.{and-left, and-right, and-both, of-T}
-use Rattle.bits.proofs.Cases.{by-equality}
 use Rattle.effect.specs.State.{stateWords, pcAt, delayAt, targetAt, srAt, epcrAt, esrAt, linkAt, linkAddressAt, modeAt, picmrAt, all, rules}
-use Rattle.effect.specs.declared.types.Board.{Board}
+use Rattle.effect.specs.Board.{Board}
 use Rattle.commit.specs.Commit.{wordAt}
 use Rattle.commit.proofs.Own.{mid-word}
 use Rattle.commit.specs.Inner.{ownWord}
-use Rattle.refusal.specs.Refusal.{Rule, everyBelow, everyFrom, firstBroken}
+use Rattle.refusal.specs.Refusal.{Rule, everyFrom, firstBroken}
 use Rattle.refusal.specs.Inner.{greatest}
 
 pub and-true : (b : Bool) → b && true ≡ b
 and-true true = refl
 and-true false = refl
 
-and-false : (b : Bool) → b && false ≡ false
-and-false true = refl
-and-false false = refl
-
 -- a rule that passes before others
 pub pass : {a : Bool} → a ≡ true → (l : List Bool) → all l ≡ all (a ∷ l)
 pass p l = rw p
-
--- ---- every number below n
-
-module _ (f : ℕ → Bool) where
-  pub below-next : (i : ℕ) → everyBelow i f ≡ true → f i ≡ true → everyBelow (i + 1) f ≡ true
-  unfolding everyBelow
-  below-next i h g = rw (add-one, h, g)
-
-  pub below-stop : (n i : ℕ) → i < n → f i ≡ false → everyBelow n f ≡ false
-  unfolding everyBelow
-  below-stop zero i h g = absurd (omega arith)
-  below-stop (suc n) i h g =
-      by-equality i n (λ q. rw (← q, g) (and-false (everyBelow i f))) (λ q. rw (below-stop n i (omega arith) g))
-
-  pub below-at : (n : ℕ) → T (everyBelow n f) → (i : ℕ) → i < n → T (f i)
-  unfolding everyBelow
-  below-at zero t i h = absurd (omega arith)
-  below-at (suc n) t i h =
-      by-equality i n (λ q. rw q (and-right (everyBelow n f) (f n) t)) (λ q. below-at n (and-left (everyBelow n f) (f n) t) i (omega arith))
-
-  pub of-below : (n : ℕ) → ((i : ℕ) → i < n → T (f i)) → T (everyBelow n f)
-  unfolding everyBelow
-  of-below zero g = tt
-  of-below (suc n) g = and-both (everyBelow n f) (f n) (of-below n (λ i h. g i (omega arith))) (g n (omega arith))
 
 -- ---- every element of a list
 

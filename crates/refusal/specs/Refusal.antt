@@ -1,25 +1,23 @@
--- What a run refuses (the paper's "turned back"): document 01, "What is lent" and "Turned back"; document 02, notes 4 and 5.
+-- What a run refuses (the paper's "turned back"): document 01, "What is lent" and "Turned back"; document 02, notes 4 to 6. The rules on a list of vectors
+-- stand in vector_list/specs/Rules.
 use mathlib.Core.Bool.{Bool, true, _&&_, _||_}
 use mathlib.Core.List.{List, [], _∷_, _++_}
-use Prim.Native.Nat.{ℕ, zero, suc, _+_, _/_, _%_}
+use Prim.Native.Nat.{ℕ, _+_, _/_, _%_}
 use lib.Dec.{eqb, leb, ltb}
 use lib.ListN.{length}
 use Rattle.bits.specs.Choice.{if_then_else_}
+use Rattle.bits.specs.Every.{everyBelow}
+use Rattle.vector_list.specs.Rules.{vectorsFit}
 use Rattle.effect.specs.State.{stateWords}
-use Rattle.effect.specs.declared.types.Board.{Board}
+use Rattle.effect.specs.Board.{Board}
 use Rattle.commit.specs.Commit.{coreCount}
 use Rattle.decode_cache.specs.Cache.{formAt}
 use Rattle.lawful.specs.Accepted.{accepted}
 use Rattle.refusal.specs.Lent.{Lent, boardOf}
 use Rattle.refusal.specs.declared.cause.Refusal.{Refusal}
-use Rattle.refusal.specs.declared.cause.Refusal.the-variants.{MemoryLength, StatesLength, StateRule, ScheduleLength, NoSuchCore, LevelsLength, ReadOnlyLimit, CacheLength, CacheEntry}
+use Rattle.refusal.specs.declared.cause.Refusal.the-variants.{MemoryLength, StatesLength, StateRule, ScheduleLength, NoSuchCore, LevelsLength, ReadOnlyLimit, VectorList, CacheLength, CacheEntry}
 use Rattle.refusal.specs.declared.cause.Verdict.{Verdict}
 use Rattle.refusal.specs.declared.cause.Verdict.the-variants.{Accepted, Refused}
-
--- f passes at every number below n
-unfoldable pub everyBelow : ℕ → (ℕ → Bool) → Bool
-everyBelow zero f = true
-everyBelow (suc n) f = everyBelow n f && f n
 
 -- f passes at every element of a list and its place, counted from i
 unfoldable pub everyFrom : (ℕ → ℕ → Bool) → ℕ → List ℕ → Bool
@@ -75,8 +73,8 @@ pub record Rule : Type 0 where
 abbrev pub rule : ℕ → Bool → Rule
 rule number passes = record { number = number; passes = passes }
 
--- "Runs test 1 to 7 in this order"; document 02, note 4: "with 11, after 5"; note 5: "with 12, after 11": the rules of both runs, and those on the decode cache, in
--- the order tested
+-- "Runs test 1 to 7 in this order"; document 02, note 4: "with 11, after 5"; note 5: "with 12, after 11"; note 6: "a run handed a list that breaks
+-- these rules refuses with 13 too, after 12": the rules of both runs, and those on the decode cache, in the order tested
 abbrev pub runRules : Lent → List Rule
 runRules l =
     rule 1 (memoryFits (length (l .memory))) ∷
@@ -86,6 +84,7 @@ runRules l =
     rule 5 (namesCores (coreCount (l .states)) (l .schedule)) ∷
     rule 11 (levelsFit (length (l .schedule)) (length (l .levels))) ∷
     rule 12 (limitFits (length (l .memory)) (l .limit)) ∷
+    rule 13 (vectorsFit (l .vectors)) ∷
     []
 
 abbrev pub cacheRules : Board → List ℕ → List ℕ → List Rule
@@ -114,6 +113,7 @@ refusalNumber ScheduleLength = 4
 refusalNumber NoSuchCore = 5
 refusalNumber LevelsLength = 11
 refusalNumber ReadOnlyLimit = 12
+refusalNumber VectorList = 13
 refusalNumber CacheLength = 6
 refusalNumber CacheEntry = 7
 

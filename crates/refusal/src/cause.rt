@@ -12,6 +12,7 @@ pub enum Refusal {
     NoSuchCore,
     LevelsLength,
     ReadOnlyLimit,
+    VectorList,
     CacheLength,
     CacheEntry,
 }
@@ -34,6 +35,7 @@ pub fn number(cause: Refusal) -> u64
         Refusal::NoSuchCore => 5,
         Refusal::LevelsLength => 11,
         Refusal::ReadOnlyLimit => 12,
+        Refusal::VectorList => 13,
         Refusal::CacheLength => 6,
         Refusal::CacheEntry => 7,
     }

@@ -1,6 +1,6 @@
 // What a run is lent is tested before it runs, in the order of the documents' refusals.
 ghost use mathlib.Core.Path.{_≡_};
-ghost use Rattle.effect.specs.declared.types.Board.{Board};
+ghost use Rattle.effect.specs.Board.{Board};
 ghost use Rattle.refusal.specs.Lent.{lent};
 ghost use Rattle.refusal.specs.Refusal.{memoryFits, statesFit, limitFits, cacheRules, firstBroken, plainRefusal, fastRefusal, verdictNumber};
 use crate::cause::Refusal;
@@ -46,9 +46,16 @@ fn limit_fits(len: usize, limit: u32) -> bool
     limit as usize <= len
 }
 
-// Refusals 1 to 5, 11 and 12, which both runs have.
-pub fn check(memory: &[u8], states: &[u32], schedule: &[u8], levels: &[u32], limit: u32) -> Verdict
-    ensures { λ r. ⌜ verdictNumber r ≡ plainRefusal (lent (now (memory .entry)) (now (states .entry)) (now (schedule .entry)) (now (levels .entry)) limit) ⌝ }
+// Refusals 1 to 5 and 11 to 13, which both runs have.
+pub fn check(
+    memory: &[u8],
+    states: &[u32],
+    schedule: &[u8],
+    levels: &[u32],
+    limit: u32,
+    vectors: &[u32],
+) -> Verdict
+    ensures { λ r. ⌜ verdictNumber r ≡ plainRefusal (lent (now (memory .entry)) (now (states .entry)) (now (schedule .entry)) (now (levels .entry)) limit (now (vectors .entry))) ⌝ }
 {
     if !memory_fits(memory.len()) {
         return Verdict::Refused(Refusal::MemoryLength);
@@ -70,6 +77,9 @@ pub fn check(memory: &[u8], states: &[u32], schedule: &[u8], levels: &[u32], lim
     }
     if !limit_fits(memory.len(), limit) {
         return Verdict::Refused(Refusal::ReadOnlyLimit);
+    }
+    if !vector_list::fits(vectors) {
+        return Verdict::Refused(Refusal::VectorList);
     }
     Verdict::Accepted
 }
@@ -94,11 +104,12 @@ pub fn check_fast(
     schedule: &[u8],
     levels: &[u32],
     limit: u32,
+    vectors: &[u32],
     cache: &[u64],
 ) -> Verdict
-    ensures { λ r. ⌜ verdictNumber r ≡ fastRefusal (lent (now (memory .entry)) (now (states .entry)) (now (schedule .entry)) (now (levels .entry)) limit) (now (cache .entry)) ⌝ }
+    ensures { λ r. ⌜ verdictNumber r ≡ fastRefusal (lent (now (memory .entry)) (now (states .entry)) (now (schedule .entry)) (now (levels .entry)) limit (now (vectors .entry))) (now (cache .entry)) ⌝ }
 {
-    let verdict = check(memory, states, schedule, levels, limit);
+    let verdict = check(memory, states, schedule, levels, limit, vectors);
     match verdict {
         Verdict::Accepted => check_cache(memory, cache),
         Verdict::Refused(cause) => Verdict::Refused(cause),

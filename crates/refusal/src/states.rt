@@ -3,7 +3,7 @@ ghost use mathlib.Core.Path.{_≡_};
 ghost use Prim.Native.Nat.{ℕ, _+_, _*_, _≤_};
 ghost use lib.ListN.{length, drop};
 ghost use Rattle.effect.specs.State.{stateWords, all, rules};
-ghost use Rattle.effect.specs.declared.types.Board.{Board};
+ghost use Rattle.effect.specs.Board.{Board};
 ghost use Rattle.commit.specs.Commit.{coreCount};
 ghost use Rattle.commit.specs.Inner.{ownWord};
 ghost use Rattle.lawful.specs.Accepted.{accepted};

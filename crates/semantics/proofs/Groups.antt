@@ -10,7 +10,7 @@ use borrow.Author.Tests.{lt-ltb, le-ltb}
 use Rattle.bits.proofs.Tests.{NoneOf, and-left, and-right}
 use Rattle.isa.specs.Groups.{firstBranch, firstNopMovhi, firstControl, firstLoad, firstAddImmediate, firstImmediate, firstCompareImmediate, firstStore, firstArithmetic, firstLogic, firstCompare, firstCache, firstProduct, IsNopMovhi, IsControl, IsLoad, IsAddImmediate, IsImmediate, IsCompareImmediate, IsStore, IsArithmetic, IsLogic, IsCompare, IsCache}
 use Rattle.effect.specs.declared.types.Inputs.{Inputs}
-use Rattle.effect.specs.declared.types.Board.{Board}
+use Rattle.effect.specs.Board.{Board}
 use Rattle.effect.specs.declared.types.Effect.{Effect}
 use Rattle.action.specs.Operations.{illegal}
 use Rattle.semantics.specs.Meaning.{branches, nopMovhi, control, loads, addImmediates, immediates, stores, arithmetic, logic, compares, caches, products, groups, grouped, meaning}
@@ -83,13 +83,13 @@ module _ (board : Board) (mem : List ℕ) (k : ℕ) (x : Inputs) where
   pub is-add-immediate : IsAddImmediate k → addImmediates k x ≡ meaning board mem k x
   is-add-immediate h = at 4 firstAddImmediate tt (h .0) (h .1)
 
-  pub is-immediate : IsImmediate k → immediates board k x ≡ meaning board mem k x
+  pub is-immediate : IsImmediate k → immediates (board .cores) k x ≡ meaning board mem k x
   is-immediate h = at 5 firstImmediate tt (h .0) (h .1)
 
   pub is-compare-immediate : IsCompareImmediate k → compares (k - firstCompareImmediate) x (x .immediate) ≡ meaning board mem k x
   is-compare-immediate h = at 6 firstCompareImmediate tt (h .0) (h .1)
 
-  pub is-store : IsStore k → stores board (length mem) k x ≡ meaning board mem k x
+  pub is-store : IsStore k → stores (board .limit) (length mem) k x ≡ meaning board mem k x
   is-store h = at 7 firstStore tt (h .0) (h .1)
 
   pub is-arithmetic : IsArithmetic k → arithmetic k x ≡ meaning board mem k x

@@ -19,7 +19,7 @@ use Rattle.arith.specs.Place.{least, greatest}
 use Rattle.product.specs.Product.{product, productUnsigned, quotient, quotientUnsigned}
 use Rattle.product.specs.Accumulate.{added, subtracted}
 use Rattle.effect.specs.declared.types.Inputs.{Inputs}
-use Rattle.effect.specs.declared.types.Board.{Board}
+use Rattle.effect.specs.Board.{Board}
 use Rattle.effect.specs.declared.types.Effect.{Effect}
 use Rattle.action.specs.Operations.{writes, nothing, setsFlag, nop, illegal, trap, syscall, resultOrRaises, divides, accumulates, readsAccumulator, jump, relative, afterSlot, branch, registerJump, returns, load, loadLinked, store, storeConditional, touch, specialRegister, setsSpecialRegister}
 use Rattle.commit.specs.Commit.{inputs}
@@ -77,12 +77,12 @@ abbrev pub specialNumber : Inputs → ℕ
 specialNumber x = bitOr (x .a) (x .immediate)
 
 -- logic and shifts with an immediate, and l.mfspr
-unfoldable pub immediates : Board → ℕ → Inputs → Effect
-immediates board k x =
+unfoldable pub immediates : ℕ → ℕ → Inputs → Effect
+immediates cores k x =
     if eqb k 25 then writes x (bitAnd (x .a) (x .immediate)) else  -- l.andi
     if eqb k 26 then writes x (bitOr (x .a) (x .immediate)) else  -- l.ori
     if eqb k 27 then writes x (bitXor (x .a) (x .immediate)) else  -- l.xori
-    if eqb k 28 then writes x (specialRegister board x (specialNumber x)) else  -- l.mfspr
+    if eqb k 28 then writes x (specialRegister cores x (specialNumber x)) else  -- l.mfspr
     if eqb k 29 then writes x (shiftLeft (x .a) (x .immediate)) else  -- l.slli
     if eqb k 30 then writes x (shiftRight (x .a) (x .immediate)) else  -- l.srli
     if eqb k 31 then writes x (shiftRightSigned (x .a) (x .immediate)) else  -- l.srai
@@ -90,13 +90,13 @@ immediates board k x =
     illegal x
 
 -- l.mtspr and the stores
-unfoldable pub stores : Board → ℕ → ℕ → Inputs → Effect
-stores board len k x =
+unfoldable pub stores : ℕ → ℕ → ℕ → Inputs → Effect
+stores limit len k x =
     if eqb k 43 then setsSpecialRegister x (specialNumber x) (x .b) else  -- l.mtspr
-    if eqb k 44 then storeConditional board x len else  -- l.swa
-    if eqb k 45 then store board x len 4 else  -- l.sw
-    if eqb k 46 then store board x len 1 else  -- l.sb
-    if eqb k 47 then store board x len 2 else  -- l.sh
+    if eqb k 44 then storeConditional limit x len else  -- l.swa
+    if eqb k 45 then store limit x len 4 else  -- l.sw
+    if eqb k 46 then store limit x len 1 else  -- l.sb
+    if eqb k 47 then store limit x len 2 else  -- l.sh
     illegal x
 
 -- sums and differences of registers
@@ -162,9 +162,9 @@ groups board mem k x =
     (firstLoad, control k x) ∷
     (firstAddImmediate, loads mem k x) ∷
     (firstImmediate, addImmediates k x) ∷
-    (firstCompareImmediate, immediates board k x) ∷
+    (firstCompareImmediate, immediates (board .cores) k x) ∷
     (firstStore, compares (k - firstCompareImmediate) x (x .immediate)) ∷
-    (firstArithmetic, stores board (length mem) k x) ∷
+    (firstArithmetic, stores (board .limit) (length mem) k x) ∷
     (firstLogic, arithmetic k x) ∷
     (firstCompare, logic k x) ∷
     (firstCache, compares (k - firstCompare) x (x .b)) ∷

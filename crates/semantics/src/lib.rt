@@ -13,7 +13,6 @@ use action::raised;
 use action::results;
 use action::special;
 use effect::types::Action;
-use effect::types::Board;
 use effect::types::Inputs;
 use effect::types::Written;
 use isa::groups;
@@ -91,15 +90,15 @@ pub fn add_immediate(kind: u8, x: Inputs) -> Action
 }
 
 // Logic and shifts with an immediate, and l.mfspr.
-pub fn immediate(board: Board, kind: u8, x: Inputs) -> Written
+pub fn immediate(cores: u32, kind: u8, x: Inputs) -> Written
     requires { ⌜ IsImmediate kind ⌝ }
-    ensures { λ r. ⌜ goesOn x r ≡ immediates board kind x ⌝ }
+    ensures { λ r. ⌜ goesOn x r ≡ immediates cores kind x ⌝ }
 {
     match kind {
         25 => completed::write(x, arith::and(x.a, x.immediate)), // l.andi
         26 => completed::write(x, arith::or(x.a, x.immediate)), // l.ori
         27 => completed::write(x, arith::xor(x.a, x.immediate)), // l.xori
-        28 => completed::write(x, special::read(board, x, arith::or(x.a, x.immediate))), // l.mfspr
+        28 => completed::write(x, special::read(cores, x, arith::or(x.a, x.immediate))), // l.mfspr
         29 => completed::write(x, arith::sll(x.a, x.immediate)), // l.slli
         30 => completed::write(x, arith::srl(x.a, x.immediate)), // l.srli
         31 => completed::write(x, arith::sra(x.a, x.immediate)), // l.srai
@@ -109,16 +108,16 @@ pub fn immediate(board: Board, kind: u8, x: Inputs) -> Written
 }
 
 // The stores and l.mtspr.
-pub fn store(board: Board, len: usize, kind: u8, x: Inputs) -> Action
+pub fn store(limit: u32, len: usize, kind: u8, x: Inputs) -> Action
     requires { ⌜ IsStore kind ⌝ }
-    ensures { λ r. ⌜ effectBy x r ≡ stores board len kind x ⌝ }
+    ensures { λ r. ⌜ effectBy x r ≡ stores limit len kind x ⌝ }
 {
     match kind {
         43 => Action::Advance(special::write(x, arith::or(x.a, x.immediate), x.b)), // l.mtspr
-        44 => accesses::store_conditional(board, x, len), // l.swa
-        45 => accesses::store(board, x, len, 4), // l.sw
-        46 => accesses::store(board, x, len, 1), // l.sb
-        47 => accesses::store(board, x, len, 2), // l.sh
+        44 => accesses::store_conditional(limit, x, len), // l.swa
+        45 => accesses::store(limit, x, len, 4), // l.sw
+        46 => accesses::store(limit, x, len, 1), // l.sb
+        47 => accesses::store(limit, x, len, 2), // l.sh
         _ => raised::illegal(x), // no kind comes here
     }
 }

@@ -12,7 +12,7 @@ use Rattle.bits.proofs.Cases.{if-both, by-equality}
 use Rattle.isa.specs.InstructionSet.{decode}
 use Rattle.memory.specs.Memory.{memoryWord}
 use Rattle.effect.specs.Effect.{raises}
-use Rattle.effect.specs.declared.types.Board.{Board}
+use Rattle.effect.specs.Board.{Board}
 use Rattle.effect.specs.declared.types.Effect.{Effect}
 use Rattle.commit.specs.Commit.{writesMemory, touched, memoryAfter}
 use Rattle.decode_cache.proofs.Forms.{decode-filled, form-filled, filled-inside}
@@ -107,7 +107,7 @@ right-emptied board mem c e sound r = go (writesMemory e) refl
 -- "for every entry that some word decodes to, its outcome is that form's, also where memory holds another word there": no fact on the cache is asked
 pub entry-as-it-stands : (board : Board) (x : Fast) (core w : ℕ) → isFetch (x .plain .memory) (x .plain .states) core ≡ true
     → getD (x .cache) (fetched (x .plain .states) core) 0 ≡ decode w
-    → fastEntry board x core .plain ≡ plainAfter (x .plain) core (effectOf board (x .plain .memory) (x .plain .states) core (decode w))
+    → fastEntry board x core .plain ≡ plainAfter board (x .plain) core (effectOf board (x .plain .memory) (x .plain .states) core (decode w))
 unfolding fastEntry fastFetch
 entry-as-it-stands board x core w i e = rw (i, e, ne-eqb (decode w) 0 (decode-filled w))
 
@@ -124,8 +124,8 @@ pub record Agrees (board : Board) (y : Fast) (p : Plain) (h : History) : Type 0 
 module _ (board : Board) (x : Fast) (core : ℕ) (right : Right board (x .cache) (x .plain .memory)) where
   done-agrees : (k : ℕ) (e : Effect) → Sound board (length (x .plain .memory)) e
       → Agrees board
-      (record { plain = plainAfter (x .plain) core e; cache = emptied e (set (x .cache) k (formAt board (x .plain .memory) k)); reused = x .reused + filled (getD (x .cache) k 0) })
-      (plainAfter (x .plain) core e)
+      (record { plain = plainAfter board (x .plain) core e; cache = emptied e (set (x .cache) k (formAt board (x .plain .memory) k)); reused = x .reused + filled (getD (x .cache) k 0) })
+      (plainAfter board (x .plain) core e)
       (record { cached = emptied e (set (cachedAtFirst (x .cache)) k 1); reused = x .reused + getD (cachedAtFirst (x .cache)) k 0 })
   unfolding plainAfter
   done-agrees k e sound =
@@ -158,7 +158,7 @@ module _ (board : Board) (x : Fast) (core : ℕ) (right : Right board (x .cache)
         (done-agrees k (effectOf board (x .plain .memory) (x .plain .states) core (formAt board (x .plain .memory) k))
         (effect-sound board (x .plain .memory) (x .plain .states) core (formAt board (x .plain .memory) k)))
 
-  unfetched-agrees : isFetch (x .plain .memory) (x .plain .states) core ≡ false → Agrees board (fastUnfetched x core) (plainEntry board (x .plain) core) (historyOf x)
+  unfetched-agrees : isFetch (x .plain .memory) (x .plain .states) core ≡ false → Agrees board (fastUnfetched board x core) (plainEntry board (x .plain) core) (historyOf x)
   unfolding fastUnfetched plainEntry plainEffect plainAfter
   unfetched-agrees none =
       let e = unfetched (x .plain .states) core in
@@ -171,7 +171,7 @@ module _ (board : Board) (x : Fast) (core : ℕ) (right : Right board (x .cache)
   by-fetch : (b : Bool) → isFetch (x .plain .memory) (x .plain .states) core ≡ b → Agrees board
       (if b then fastFetch board x core (fetched (x .plain .states) core)
       (effectOf board (x .plain .memory) (x .plain .states) core (cachedForm board (x .plain .memory) (x .cache) (fetched (x .plain .states) core)))
-      else fastUnfetched x core)
+      else fastUnfetched board x core)
       (plainEntry board (x .plain) core)
       (if b then historyFetch board (x .plain) (historyOf x) core else historyOf x)
   by-fetch true e = fetch-agrees e

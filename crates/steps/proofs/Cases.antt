@@ -11,7 +11,7 @@ use borrow.Author.Tests.{eq-eqb, ne-eqb, le-leb, lt-leb}
 use Rattle.bits.specs.Choice.{if_then_else_}
 use Rattle.bits.proofs.Cases.{if-both}
 use Rattle.effect.specs.State.{stateWords, pcAt, modeAt, picsrAt, running}
-use Rattle.effect.specs.declared.types.Board.{Board}
+use Rattle.effect.specs.Board.{Board}
 use Rattle.effect.specs.Effect.{noStore}
 use Rattle.effect.specs.declared.types.Effect.{Effect}
 use Rattle.effect.specs.declared.types.Outcome.{Outcome}
@@ -74,7 +74,7 @@ module _ (board : Board) (mem s c : List ℕ) (core : ℕ) where
 
   -- no word is fetched
   entered-unfetched : {mem′ s′ : List ℕ} {o : Outcome} {e : Effect} → isFetch mem s core ≡ false → e ≡ unfetched s core
-      → Executed mem s core e mem′ s′ (tells o noStore) → Entered board mem s c core mem′ s′ c (Unfetched o)
+      → Executed (board .vectors) mem s core e mem′ s′ (tells o noStore) → Entered board mem s c core mem′ s′ c (Unfetched o)
   unfolding fastEntry fastUnfetched plainAfter turnOf
   entered-unfetched {mem′} {s′} {o} {e} f q x =
       let p : o ≡ e .outcome = ap (λ (d : Done). d .outcome) (x .done) in
@@ -84,19 +84,19 @@ module _ (board : Board) (mem s c : List ℕ) (core : ℕ) where
       }
 
   pub entered-outside : {mem′ s′ : List ℕ} {o : Outcome} → isInterrupted s core ≡ false → length mem < wordAt s core pcAt + 4
-      → Executed mem s core (fetchFault s core) mem′ s′ (tells o noStore) → Entered board mem s c core mem′ s′ c (Unfetched o)
+      → Executed (board .vectors) mem s core (fetchFault s core) mem′ s′ (tells o noStore) → Entered board mem s c core mem′ s′ c (Unfetched o)
   unfolding unfetched
   entered-outside h g x = entered-unfetched (no-fetch-outside h g) (rw h) x
 
   pub entered-interrupted : {mem′ s′ : List ℕ} {o : Outcome} → isInterrupted s core ≡ true
-      → Executed mem s core (interruption s core) mem′ s′ (tells o noStore) → Entered board mem s c core mem′ s′ c (Unfetched o)
+      → Executed (board .vectors) mem s core (interruption s core) mem′ s′ (tells o noStore) → Entered board mem s c core mem′ s′ c (Unfetched o)
   unfolding unfetched
   entered-interrupted h x = entered-unfetched (no-fetch-interrupted h) (rw h) x
 
   -- the cache after the fetch of word k, and after its instruction
   pub entered-inside : {k : ℕ} (c′ : List ℕ) {mem′ s′ c″ : List ℕ} {r : Done} {u : ℕ} → k ≡ fetched s core
       → isInterrupted s core ≡ false → wordAt s core pcAt + 4 ≤ length mem
-      → c′ ≡ set c k (cachedForm board mem c k) → Executed mem s core (effectOf board mem s core (cachedForm board mem c k)) mem′ s′ r
+      → c′ ≡ set c k (cachedForm board mem c k) → Executed (board .vectors) mem s core (effectOf board mem s core (cachedForm board mem c k)) mem′ s′ r
       → c″ ≡ (if r .stored then set c′ (r .address / 4) 0 else c′) → u ≡ filled (getD c k 0)
       → Entered board mem s c core mem′ s′ c″ (Instruction (r .outcome) u)
   unfolding fastEntry fastFetch plainAfter emptied turnOf
@@ -192,14 +192,14 @@ module _ (board : Board) (mem s c : List ℕ) (entry : Scheduled) where
         let same : t ≡ s = q ∙ rw h in
         rw same (stepped-idle h)
 
-    pub step-interrupted : {s′ : List ℕ} {o : Outcome} → start.Interrupt ≡ startOf s entry → Executed mem t (entry .core) (interruption t (entry .core)) mem s′ (tells o noStore)
+    pub step-interrupted : {s′ : List ℕ} {o : Outcome} → start.Interrupt ≡ startOf s entry → Executed (board .vectors) mem t (entry .core) (interruption t (entry .core)) mem s′ (tells o noStore)
         → Stepped board mem s c entry mem s′ c (Unfetched o)
     unfolding startBy
     step-interrupted {s′} {o} r x =
         let h = interrupt-from (isRunning s (entry .core)) (isInterrupted (latched s (entry .core) (entry .lines)) (entry .core)) r in
         stepped-running (h .0)
         (entered-interrupted board mem (latched s (entry .core) (entry .lines)) c (entry .core) (h .1)
-        (subst (λ (t : List ℕ). Executed mem t (entry .core) (interruption t (entry .core)) mem s′ (tells o noStore)) (latched-then s entry q (h .0)) x))
+        (subst (λ (t : List ℕ). Executed (board .vectors) mem t (entry .core) (interruption t (entry .core)) mem s′ (tells o noStore)) (latched-then s entry q (h .0)) x))
 
     pub step-fetched : {mem′ s′ c′ : List ℕ} {r : Turn} → start.Fetch ≡ startOf s entry → Entered board mem t c (entry .core) mem′ s′ c′ r
         → Stepped board mem s c entry mem′ s′ c′ r

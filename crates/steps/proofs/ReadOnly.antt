@@ -7,7 +7,7 @@ use Rattle.bits.proofs.Cases.{if-both}
 use Rattle.isa.specs.declared.vectors.Cause.{Cause}
 use Rattle.effect.specs.Effect.{raises, faults}
 use Rattle.effect.specs.declared.types.Inputs.{Inputs}
-use Rattle.effect.specs.declared.types.Board.{Board}
+use Rattle.effect.specs.Board.{Board}
 use Rattle.effect.specs.declared.types.Effect.{Effect}
 use Rattle.commit.specs.Commit.{memoryAfter}
 use Rattle.decode_cache.specs.Cache.{formAt}

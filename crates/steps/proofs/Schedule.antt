@@ -15,11 +15,11 @@ use Rattle.bits.proofs.Cases.{if-both, by-equality}
 use Rattle.isa.specs.declared.vectors.Cause.the-variants.{Bus, Interrupt}
 use Rattle.memory.specs.Memory.{memoryWord}
 use Rattle.effect.specs.State.{pcAt, eearAt, picsrAt}
-use Rattle.effect.specs.declared.types.Board.{Board}
+use Rattle.effect.specs.Board.{Board}
 use Rattle.effect.specs.declared.types.Effect.{Effect}
 use Rattle.commit.specs.Commit.{wordAt, coreCount, inputs, noFields, writesMemory, statesAfter}
 use Rattle.decode_cache.specs.Cache.{formAt}
-use Rattle.lawful.specs.Inner.{Lawful}
+use Rattle.lawful.specs.Inner.{LawfulVectors, Lawful}
 use Rattle.lawful.specs.Accepted.{AllAccepted}
 use Rattle.lawful.proofs.Lawful.{faults-lawful}
 use Rattle.lawful.proofs.States.{length-states, states-accepted, states-picsr}
@@ -102,45 +102,45 @@ effect-lawful board mem s core h a =
     (if-both (Lawful (wordAt s core picsrAt)) (isInterrupted s core) (faults-lawful x i Interrupt (wordAt s core eearAt)) (faults-lawful x i Bus (wordAt s core pcAt)))
 
 -- a running core's, once its lines are latched
-entry-accepted : (board : Board) (p : Plain) (core : ℕ) → core < coreCount (p .states) → AllAccepted board (p .states)
+entry-accepted : (board : Board) → LawfulVectors (board .vectors) → (p : Plain) (core : ℕ) → core < coreCount (p .states) → AllAccepted board (p .states)
     → AllAccepted board (plainEntry board p core .states)
 unfolding plainEntry plainAfter
-entry-accepted board p core h a =
-    states-accepted (p .states) core (plainEffect board (p .memory) (p .states) core) (effect-lawful board (p .memory) (p .states) core h a) h a
+entry-accepted board v p core h a =
+    states-accepted (board .vectors) (p .states) core (plainEffect board (p .memory) (p .states) core) v (effect-lawful board (p .memory) (p .states) core h a) h a
 
-pub step-accepted : (board : Board) (p : Plain) (entry : Scheduled) → entry .core < coreCount (p .states) → AllAccepted board (p .states)
+pub step-accepted : (board : Board) → LawfulVectors (board .vectors) → (p : Plain) (entry : Scheduled) → entry .core < coreCount (p .states) → AllAccepted board (p .states)
     → AllAccepted board (plainStep board p entry .states)
 unfolding plainStep
-step-accepted board p entry h a =
+step-accepted board v p entry h a =
     let l : length (latched (p .states) (entry .core) (entry .lines)) ≡ length (p .states) = length-latched (p .states) (entry .core) (entry .lines) in
     if-both (λ (q : Plain). AllAccepted board (q .states)) (isRunning (p .states) (entry .core))
-    (entry-accepted board (latching p entry) (entry .core) (omega arith) (latched-accepted (p .states) (entry .core) (entry .lines) a)) a
+    (entry-accepted board v (latching p entry) (entry .core) (omega arith) (latched-accepted (p .states) (entry .core) (entry .lines) a)) a
 
 -- after an entry of the fast run, states are accepted and the cache is right again
-pub step-kept : (board : Board) (x : Fast) (entry : Scheduled) → entry .core < coreCount (x .plain .states) → AllAccepted board (x .plain .states)
+pub step-kept : (board : Board) → LawfulVectors (board .vectors) → (x : Fast) (entry : Scheduled) → entry .core < coreCount (x .plain .states) → AllAccepted board (x .plain .states)
     → Right board (x .cache) (x .plain .memory) → {y : Fast} → y ≡ fastStep board x entry
     → AllAccepted board (y .plain .states) × Right board (y .cache) (y .plain .memory)
-step-kept board x entry h a r q =
+step-kept board v x entry h a r q =
     let s = step-agrees board x entry r in
-    rw (q, s .same-plain) (step-accepted board (x .plain) entry h a, rw (s .same-plain) at (s .right-again))
+    rw (q, s .same-plain) (step-accepted board v (x .plain) entry h a, rw (s .same-plain) at (s .right-again))
 
 step-length : (board : Board) (p : Plain) (entry : Scheduled) → length (plainStep board p entry .states) ≡ length (p .states)
 unfolding plainStep plainEntry plainAfter
 step-length board p entry =
     let t = latched (p .states) (entry .core) (entry .lines) in
     if-both (λ (q : Plain). length (q .states) ≡ length (p .states)) (isRunning (p .states) (entry .core))
-    (length-states t (entry .core) (plainEffect board (p .memory) t (entry .core)) ∙ length-latched (p .states) (entry .core) (entry .lines)) refl
+    (length-states (board .vectors) t (entry .core) (plainEffect board (p .memory) t (entry .core)) ∙ length-latched (p .states) (entry .core) (entry .lines)) refl
 
-pub from-accepted : (board : Board) (schedule levels : List ℕ) (p : Plain)
+pub from-accepted : (board : Board) → LawfulVectors (board .vectors) → (schedule levels : List ℕ) (p : Plain)
     → ((i : ℕ) → i < length schedule → getD schedule i 0 < coreCount (p .states)) → AllAccepted board (p .states)
     → AllAccepted board (plainFrom board (scheduled schedule levels) p .states)
 unfolding plainFrom scheduled
-from-accepted board [] levels p n a = a
-from-accepted board (core ∷ schedule) [] p n a = a
-from-accepted board (core ∷ schedule) (lines ∷ levels) p n a =
+from-accepted board v [] levels p n a = a
+from-accepted board v (core ∷ schedule) [] p n a = a
+from-accepted board v (core ∷ schedule) (lines ∷ levels) p n a =
     let entry : Scheduled = record { core = core; lines = lines } in
-    from-accepted board schedule levels (plainStep board p entry) (λ i h. rw (step-length board p entry) (n (suc i) (omega arith)))
-    (step-accepted board p entry (n 0 (omega arith)) a)
+    from-accepted board v schedule levels (plainStep board p entry) (λ i h. rw (step-length board p entry) (n (suc i) (omega arith)))
+    (step-accepted board v p entry (n 0 (omega arith)) a)
 
 -- ---- with all lines low nothing is latched anew
 
@@ -153,9 +153,9 @@ step-picsr board p entry z h a c i =
     same : latched (p .states) (entry .core) (entry .lines) ≡ p .states
     same = ap (latched (p .states) (entry .core)) z ∙ latch-low (p .states) (entry .core)
 
-    runs : wordAt (statesAfter (latched (p .states) (entry .core) (entry .lines)) (entry .core)
+    runs : wordAt (statesAfter (board .vectors) (latched (p .states) (entry .core) (entry .lines)) (entry .core)
         (plainEffect board (p .memory) (latched (p .states) (entry .core) (entry .lines)) (entry .core))) c picsrAt ≤ wordAt (p .states) c picsrAt
-    runs = rw same (states-picsr (p .states) (entry .core) (plainEffect board (p .memory) (p .states) (entry .core)) (effect-lawful board (p .memory) (p .states) (entry .core) h a) h c i)
+    runs = rw same (states-picsr (board .vectors) (p .states) (entry .core) (plainEffect board (p .memory) (p .states) (entry .core)) (effect-lawful board (p .memory) (p .states) (entry .core) h a) h c i)
 
 pub none-latched-kept : (board : Board) (x : Fast) (entry : Scheduled) → entry .lines ≡ 0 → entry .core < coreCount (x .plain .states)
     → AllAccepted board (x .plain .states) → Right board (x .cache) (x .plain .memory) → NoneLatched (x .plain .states) → {y : Fast} → y ≡ fastStep board x entry

@@ -1,10 +1,10 @@
--- The fast run's entries: document 01, "Fast run"; document 02, note 4. They are defined for every decode cache (the paper's table): also where an entry is not its
+-- The fast run's entries: document 01, "Fast run"; document 02, notes 4 and 6. They are defined for every decode cache (the paper's table): also where an entry is not its
 -- word's form, which refusal 7 keeps out of runs, and for an empty cache, with which they are the plain run's.
 use mathlib.Core.List.{List, [], _∷_}
 use Prim.Native.Nat.{ℕ, _+_}
 use lib.ListN.{getD, set}
 use Rattle.bits.specs.Choice.{if_then_else_}
-use Rattle.effect.specs.declared.types.Board.{Board}
+use Rattle.effect.specs.Board.{Board}
 use Rattle.effect.specs.declared.types.Effect.{Effect}
 use Rattle.commit.specs.Commit.{writesMemory, touched, raisedBy}
 use Rattle.decode_cache.specs.Cache.{filled, cachedForm}
@@ -29,14 +29,14 @@ emptied e l = if writesMemory e then set l (touched e) 0 else l
 -- "a fetch inside memory counts as reused if its entry is filled and otherwise fills it" (a filled one stays as it is)
 unfoldable pub fastFetch : Board → Fast → ℕ → ℕ → Effect → Fast
 fastFetch board x core k e = record {
-  plain = plainAfter (x .plain) core e;
+  plain = plainAfter board (x .plain) core e;
   cache = emptied e (set (x .cache) k (cachedForm board (x .plain .memory) (x .cache) k));
   reused = x .reused + filled (getD (x .cache) k 0);
 }
 
 -- "No entry changes otherwise."
-unfoldable pub fastUnfetched : Fast → ℕ → Fast
-fastUnfetched x core = record { plain = plainAfter (x .plain) core (unfetched (x .plain .states) core); cache = x .cache; reused = x .reused }
+unfoldable pub fastUnfetched : Board → Fast → ℕ → Fast
+fastUnfetched board x core = record { plain = plainAfter board (x .plain) core (unfetched (x .plain .states) core); cache = x .cache; reused = x .reused }
 
 -- the entry of a running core whose lines are latched
 unfoldable pub fastEntry : Board → Fast → ℕ → Fast
@@ -45,7 +45,7 @@ fastEntry board x core =
     let s = x .plain .states in
     let k = fetched s core in
     if isFetch mem s core then fastFetch board x core k (effectOf board mem s core (cachedForm board mem (x .cache) k)) else
-    fastUnfetched x core
+    fastUnfetched board x core
 
 abbrev pub fastLatching : Fast → Scheduled → Fast
 fastLatching x entry = record { plain = latching (x .plain) entry; cache = x .cache; reused = x .reused }

@@ -5,7 +5,7 @@ use Prim.Native.Nat.{ℕ, _+_}
 use lib.Dec.{eqb}
 use lib.ListN.{getD, set}
 use Rattle.bits.specs.Choice.{if_then_else_}
-use Rattle.effect.specs.declared.types.Board.{Board}
+use Rattle.effect.specs.Board.{Board}
 use Rattle.decode_cache.specs.Cache.{formAt, filled}
 use Rattle.refusal.specs.Lent.{Lent, boardOf}
 use Rattle.steps.specs.Plain.{Plain, scheduledBy, isRunning, latching, fetched, isFetch, plainEffect, plainStep, start}

@@ -4,11 +4,13 @@ use mathlib.Core.Path.{_≡_}
 use Prim.Native.Nat.{ℕ, _+_, _<_, _≤_}
 use lib.ListN.{length, getD}
 use Rattle.bits.specs.Choice.{if_then_else_}
+use Rattle.isa.specs.Vectors.{vectorCount}
 use Rattle.effect.specs.State.{modeAt, picsrAt, running}
-use Rattle.effect.specs.declared.types.Board.{Board}
+use Rattle.effect.specs.Board.{Board}
 use Rattle.commit.specs.Commit.{wordAt, coreCount}
 use Rattle.decode_cache.specs.Cache.{formAt}
 use Rattle.decode_cache.specs.Inner.{Backed}
+use Rattle.lawful.specs.Inner.{LawfulVectors}
 use Rattle.lawful.specs.Accepted.{AllAccepted}
 use Rattle.pic.specs.Interrupt.{latched, isInterrupted}
 use Rattle.pic.specs.Inner.{isQuiet}
@@ -61,6 +63,8 @@ pub record Runnable (l : Lent) (cache : List ℕ) : Type 0 where
   pub few-entries : length (l .schedule) ≤ maxSchedule
   pub levels-fit : length (l .levels) ≡ length (l .schedule)
   pub names-cores : (i : ℕ) → i < length (l .schedule) → getD (l .schedule) i 0 < coreCount (l .states)
+  pub seven-vectors : length (l .vectors) ≡ vectorCount
+  pub vectors-lawful : LawfulVectors (l .vectors)
   pub accepted : AllAccepted (boardOf l) (l .states)
   pub backed : Backed cache (l .memory)
   pub right : Right (boardOf l) cache (l .memory)

@@ -1,4 +1,4 @@
--- The plain run: document 01, "Plain run"; document 02, notes 4 and 5.
+-- The plain run: document 01, "Plain run"; document 02, notes 4 to 6.
 use mathlib.Core.Bool.{Bool, _&&_, not}
 use mathlib.Core.List.{List, [], _∷_}
 use Prim.Native.Nat.{ℕ, _+_, _/_}
@@ -6,7 +6,7 @@ use lib.Dec.{eqb, leb}
 use lib.ListN.{length}
 use Rattle.bits.specs.Choice.{if_then_else_}
 use Rattle.effect.specs.State.{pcAt, modeAt, running}
-use Rattle.effect.specs.declared.types.Board.{Board}
+use Rattle.effect.specs.Board.{Board}
 use Rattle.effect.specs.declared.types.Effect.{Effect}
 use Rattle.commit.specs.Commit.{wordAt, fetchFault, statesAfter, memoryAfter, raisedBy}
 use Rattle.decode_cache.specs.Cache.{formAt}
@@ -61,7 +61,8 @@ fetched s core = wordAt s core pcAt / 4
 unfoldable pub isFetch : List ℕ → List ℕ → ℕ → Bool
 isFetch mem s core = not (isInterrupted s core) && isInside mem s core
 
--- what it does if not: "the step takes vector 800 in place of a fetch"; "PC outside memory is a bus error"
+-- what it does if not: "the step takes vector 800 in place of a fetch" (800 in the old list; by note 6 the list's vector of interrupts); "PC outside memory is a
+-- bus error"
 unfoldable pub unfetched : List ℕ → ℕ → Effect
 unfetched s core = if isInterrupted s core then interruption s core else fetchFault s core
 
@@ -72,17 +73,17 @@ plainEffect board mem s core =
 
 -- a running core's entry, with the effect e: it "adds 1 to executed"; "An exception adds 1 to raised." Document 02, note 4, of an interrupt: "it counts as
 -- executed and raised"
-unfoldable pub plainAfter : Plain → ℕ → Effect → Plain
-plainAfter p core e = record {
+unfoldable pub plainAfter : Board → Plain → ℕ → Effect → Plain
+plainAfter board p core e = record {
   memory = memoryAfter (p .memory) e;
-  states = statesAfter (p .states) core e;
+  states = statesAfter (board .vectors) (p .states) core e;
   executed = p .executed + 1;
   raised = p .raised + raisedBy (e .outcome);
 }
 
 -- the entry of a running core whose lines are latched
 unfoldable pub plainEntry : Board → Plain → ℕ → Plain
-plainEntry board p core = plainAfter p core (plainEffect board (p .memory) (p .states) core)
+plainEntry board p core = plainAfter board p core (plainEffect board (p .memory) (p .states) core)
 
 -- "If its core is not in mode 3, an entry changes nothing."
 unfoldable pub plainStep : Board → Plain → Scheduled → Plain
@@ -97,7 +98,7 @@ plainFrom board (entry ∷ more) p = plainFrom board more (plainStep board p ent
 abbrev pub start : Lent → Plain
 start l = record { memory = l .memory; states = l .states; executed = 0; raised = 0 }
 
--- "it takes memory, sheets and schedule" and, beside these, the levels and the limit
+-- "it takes memory, sheets and schedule" and, beside these, the levels, the limit and the vectors
 unfoldable pub plainRun : Lent → Plain
 plainRun l = plainFrom (boardOf l) (scheduledBy l) (start l)
 

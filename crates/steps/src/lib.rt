@@ -3,6 +3,8 @@ ghost use mathlib.Core.Bool.{false};
 ghost use mathlib.Core.Path.{_≡_};
 ghost use Prim.Native.Nat.{_+_, _*_, _%_, _≤_, _<_};
 ghost use lib.ListN.{length};
+ghost use Rattle.isa.specs.Vectors.{vectorCount};
+ghost use Rattle.effect.specs.Board.{boardWith};
 ghost use Rattle.effect.specs.State.{stateWords, pcAt, modeAt};
 ghost use Rattle.commit.specs.Commit.{wordAt};
 ghost use Rattle.decode_cache.specs.Inner.{Backed};
@@ -36,6 +38,7 @@ pub enum Turn {
 // One instruction of a running core that is not interrupted: how it ends. A filled entry of the cache is executed as it stands, whatever word memory holds there.
 fn instruction(
     board: Board,
+    vectors: &[u32],
     memory: &mut [u8],
     states: &mut [u32],
     cache: &mut [u64],
@@ -46,15 +49,16 @@ fn instruction(
     requires { ⌜ isInterrupted (now states) core ≡ false ⌝ }
     requires { ⌜ Backed (now cache) (now memory) ⌝ }
     requires { ⌜ wordAt (now states) core pcAt % 4 ≡ 0 ⌝ }
-    ensures { λ r. ⌜ Entered board (now (memory .entry)) (now (states .entry)) (now (cache .entry)) core (now (memory .exit)) (now (states .exit)) (now (cache .exit)) r ⌝ }
+    requires { ⌜ length (now vectors) ≡ vectorCount ⌝ }
+    ensures { λ r. ⌜ Entered (boardWith board (now (vectors .entry))) (now (memory .entry)) (now (states .entry)) (now (cache .entry)) core (now (memory .exit)) (now (states .exit)) (now (cache .exit)) r ⌝ }
 {
     let base = core * state::STATE_WORDS;
     let pc = crate::index::of_u32(states[base + state::PC]);
     let f = decode_cache::fetch(memory, cache, pc);
     if f.entry == 0 {
-        return Turn::Unfetched(exec::fetch_fault(states, core));
+        return Turn::Unfetched(exec::fetch_fault(vectors, states, core));
     }
-    let done = exec::execute(board, memory, states, core, f.entry);
+    let done = exec::execute(board, vectors, memory, states, core, f.entry);
     decode_cache::empty_touched(cache, done);
     let outcome = done.outcome;
     Turn::Instruction(outcome, f.reused)
@@ -89,6 +93,7 @@ fn begin(states: &mut [u32], entry: Scheduled, straight: u32) -> Start
 // One entry of the schedule.
 fn step(
     board: Board,
+    vectors: &[u32],
     memory: &mut [u8],
     states: &mut [u32],
     cache: &mut [u64],
@@ -100,12 +105,13 @@ fn step(
     requires { ⌜ Backed (now cache) (now memory) ⌝ }
     requires { ⌜ wordAt (now states) (entry .core) pcAt % 4 ≡ 0 ⌝ }
     requires { ⌜ (wordAt (now states) (entry .core) modeAt ≡ straight → Undisturbed (now states) entry) ⌝ }
-    ensures { λ r. ⌜ Stepped board (now (memory .entry)) (now (states .entry)) (now (cache .entry)) entry (now (memory .exit)) (now (states .exit)) (now (cache .exit)) r ⌝ }
+    requires { ⌜ length (now vectors) ≡ vectorCount ⌝ }
+    ensures { λ r. ⌜ Stepped (boardWith board (now (vectors .entry))) (now (memory .entry)) (now (states .entry)) (now (cache .entry)) entry (now (memory .exit)) (now (states .exit)) (now (cache .exit)) r ⌝ }
 {
     match begin(states, entry, straight) {
         Start::Idle => Turn::Idle,
-        Start::Interrupt => Turn::Unfetched(pic::take(states, entry.core)),
-        Start::Fetch => instruction(board, memory, states, cache, entry.core),
+        Start::Interrupt => Turn::Unfetched(pic::take(vectors, states, entry.core)),
+        Start::Fetch => instruction(board, vectors, memory, states, cache, entry.core),
     }
 }
 
@@ -129,10 +135,11 @@ pub fn run(
     schedule: &[u8],
     levels: &[u32],
     limit: u32,
+    vectors: &[u32],
     cache: &mut [u64],
 ) -> Counts
-    requires { ⌜ Runnable (lent (now memory) (now states) (now schedule) (now levels) limit) (now cache) ⌝ }
-    ensures { λ r. ⌜ Finished (lent (now (memory .entry)) (now (states .entry)) (now (schedule .entry)) (now (levels .entry)) limit) (now (cache .entry)) (now (memory .exit)) (now (states .exit)) (now (cache .exit)) r ⌝ }
+    requires { ⌜ Runnable (lent (now memory) (now states) (now schedule) (now levels) limit (now vectors)) (now cache) ⌝ }
+    ensures { λ r. ⌜ Finished (lent (now (memory .entry)) (now (states .entry)) (now (schedule .entry)) (now (levels .entry)) limit (now (vectors .entry))) (now (cache .entry)) (now (memory .exit)) (now (states .exit)) (now (cache .exit)) r ⌝ }
 {
     let cores = states.len() / state::STATE_WORDS;
     let board = Board {
@@ -151,7 +158,7 @@ pub fn run(
             core: crate::index::of_u8(schedule[i]),
             lines: levels[i],
         };
-        let turn = step(board, memory, states, cache, entry, straight);
+        let turn = step(board, vectors, memory, states, cache, entry, straight);
         counts = counts::counted(counts, turn);
         i += 1;
     }

@@ -13,8 +13,8 @@ enum-known-action c = search needs
 write-requires : tie.Need-write-requires
 unfolding effectBy advances
 write-requires c κs =
-    let p = c .before .before .before .before .before .before .before .pre in
-    (p .0, fits-as (ap (actionEffect _ _ _) (sym (c .before .before .before .action .given .1))) (p .1) .place-lt)
+    let p = c .before .before .before .before .before .before .before .before .pre in
+    (p .0 .0, (fits-as (ap (actionEffect _ _ _) (sym (c .before .before .before .action .given .1))) (p .0 .1) .place-lt, p .1))
 
 other-requires : tie.Need-other-requires
 other-requires c κs = search needs

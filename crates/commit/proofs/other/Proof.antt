@@ -20,19 +20,19 @@ effect-by-requires c κs = search needs
 
 commit-state-requires : tie.Need-commit-state-requires
 commit-state-requires c κs =
-    let a = c .before .before .before .before .before .before .args in
-    let p = c .before .before .before .before .before .before .pre in
+    let a = c .before .before .before .before .before .before .before .args in
+    let p = c .before .before .before .before .before .before .before .pre in
     let x = c .before .before .inputs-at .ensures in
-    (p .0 .0, placed-as (c .effect-by .ensures ∙ ap (λ (x : Inputs). effectBy x (a .action)) x) (p .1 .place-lt))
+    (p .0 .0 .0, (placed-as (c .effect-by .ensures ∙ ap (λ (x : Inputs). effectBy x (a .action)) x) (p .0 .1 .place-lt), p .1))
 
 store-of-requires : tie.Need-store-of-requires
 store-of-requires c κs = search needs
 
 put-store-requires : tie.Need-put-store-requires
 put-store-requires c κs =
-    let a = c .before .before .before .before .before .before .before .before .before .before .before .args in
-    let p = c .before .before .before .before .before .before .before .before .before .before .before .pre in
-    subst (Storable (length (now (a .memory)))) (sym (c .store-of .ensures _)) (p .1 .storable)
+    let a = c .before .before .before .before .before .before .before .before .before .before .before .before .args in
+    let p = c .before .before .before .before .before .before .before .before .before .before .before .before .pre in
+    subst (Storable (length (now (a .memory)))) (sym (c .store-of .ensures _)) (p .0 .1 .storable)
 
 same-length : tie.Need-same-length
 same-length c = search needs
@@ -43,7 +43,7 @@ same-length-2 c = search needs
 returns : tie.Need-returns
 unfolding memoryAfter
 returns c =
-    let a = c .before .before .before .before .before .before .before .before .before .before .before .before .before .before .args in
+    let a = c .before .before .before .before .before .before .before .before .before .before .before .before .before .before .before .args in
     let x = c .before .before .before .before .before .before .before .before .before .before .inputs-at .ensures in
     let e = c .before .before .before .before .before .before .before .before .effect-by .ensures ∙ ap (λ (x : Inputs). effectBy x (a .action)) x in
     let o = owned-as e (c .before .before .before .before .before .before .before .commit-state .ensures) in

@@ -5,10 +5,10 @@ use Rattle.commit.proofs.settle.Statement.{statement}
 use Rattle.commit.proofs.settle.Tie as tie
 
 commit-state-requires : tie.Need-commit-state-requires
-commit-state-requires c κs = let p = c .before .before .before .pre in (p .0, p .1 .place-lt)
+commit-state-requires c κs = let p = c .before .before .before .before .pre in (p .0, (p .1 .0 .place-lt, p .1 .1))
 
 put-store-requires : tie.Need-put-store-requires
-put-store-requires c κs = c .before .before .before .before .before .before .before .before .pre .1 .storable
+put-store-requires c κs = c .before .before .before .before .before .before .before .before .before .pre .1 .0 .storable
 
 tell-requires : tie.Need-tell-requires
 tell-requires c κs = search needs

@@ -17,11 +17,11 @@ advance-effect-requires c κs = search needs
 settle-requires : tie.Need-settle-requires
 unfolding effectBy advances
 settle-requires c κs =
-    let a = c .before .before .before .before .before .before .before .args in
-    let p = c .before .before .before .before .before .before .before .pre in
+    let a = c .before .before .before .before .before .before .before .before .args in
+    let p = c .before .before .before .before .before .before .before .before .pre in
     let told : Advance (a .w) ≡ Advance (a .w) = refl in
     let e = as-action _ _ _ told (c .before .inputs-at .ensures) (c .advance-effect .ensures) in
-    (p .0 .0, fits-as e record { place-lt = p .1; storable = none refl })
+    (p .0 .0, (fits-as e record { place-lt = p .1 .0; storable = none refl }, p .1 .1))
 
 same-length : tie.Need-same-length
 same-length c = search needs

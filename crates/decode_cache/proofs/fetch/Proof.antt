@@ -1,3 +1,4 @@
+use mathlib.Core.List.{[]}
 use mathlib.Core.Path.{ap, _∙_}
 use Prim.Native.Nat.{_/_}
 use native.Mathlib.Omega.{arith}
@@ -15,7 +16,7 @@ form-requires : tie.Need-form-requires
 form-requires c κs =
     let a = c .before .before .before .before .before .args in
     let p = c .before .before .before .before .before .pre in
-    let inside = filled-is-inside (record { cores = 0; limit = 0 }) (now (a .memory)) (now (a .cache)) (a .pc) (p .0) (p .1 .0) (λ z. c .if1 .taken (c .before .entry-of .ensures ∙ z)) in
+    let inside = filled-is-inside (record { cores = 0; limit = 0; vectors = [] }) (now (a .memory)) (now (a .cache)) (a .pc) (p .0) (p .1 .0) (λ z. c .if1 .taken (c .before .entry-of .ensures ∙ z)) in
     omega (arith, inside)
 
 same-length : tie.Need-same-length

@@ -1,6 +1,7 @@
 use Prim.Native.Nat.{_+_, _-_, _*_, _^_, _<_}
 use native.Mathlib.Omega.{arith}
 use denote.Ref.{now}
+use Rattle.effect.specs.Board.{boardWith}
 use Rattle.effect.specs.State.{stateWords}
 use borrow.Rule.Slice.PartMut.{same-len-mid}
 use Rattle.exec.proofs.Executes.{executed-kept, executed-stored, performed-here, committed-here}
@@ -46,15 +47,16 @@ same-length-2 c = search needs
 
 returns : tie.Need-returns
 returns c =
-    let a = c .before .before .before .before .before .before .before .before .before .before .before .before .before .before .before .args in
+    let a = c .before .before .before .before .before .before .before .before .before .before .before .before .before .before .before .before .args in
+    let b = boardWith (a .board) (now (a .vectors)) in
     let s = now (a .states) in
     let n = a .core * stateWords + stateWords - a .core * stateWords in
     let done = c .before .before .before .before .before .before .before .before .before .before .perform in
-    let h = c .before .before .before .before .before .before .before .before .before .before .before .before .before .before .before .pre .0 in
-    let f : a .entry < 2 ^ 64 = omega (arith, c .before .before .before .before .before .before .before .before .before .before .before .before .before .before .before .fits) in
-    let p = performed-here (a .board) (now (a .memory)) s (a .core) (a .entry) h f n (omega arith) (done .ensures) in
-    let own = committed-here (a .board) (now (a .memory)) s (a .core) (a .entry) h f n (omega arith) (done .ensures) in
-    executed-stored s (a .core) p own (c .before .before .before .before .before .if1 .taken) (same-len-mid (a .core * stateWords) n s (done .last .1 .1 .0) (done .kept .1 .1 .0))
+    let h = c .before .before .before .before .before .before .before .before .before .before .before .before .before .before .before .before .pre .0 in
+    let f : a .entry < 2 ^ 64 = omega (arith, c .before .before .before .before .before .before .before .before .before .before .before .before .before .before .before .before .fits) in
+    let p = performed-here b (now (a .memory)) s (a .core) (a .entry) h f n (omega arith) (done .ensures) in
+    let own = committed-here b (now (a .memory)) s (a .core) (a .entry) h f n (omega arith) (done .ensures) in
+    executed-stored s (a .core) p own (c .before .before .before .before .before .if1 .taken) (same-len-mid (a .core * stateWords) n s (done .last .1 .1 .1 .0) (done .kept .1 .1 .1 .0))
     (c .before .before .clear-links .ensures)
 
 same-length-3 : tie.Need-same-length-3
@@ -65,14 +67,15 @@ same-length-4 c = search needs
 
 returns-2 : tie.Need-returns-2
 returns-2 c =
-    let a = c .before .before .before .before .before .before .before .before .before .before .args in
+    let a = c .before .before .before .before .before .before .before .before .before .before .before .args in
+    let b = boardWith (a .board) (now (a .vectors)) in
     let s = now (a .states) in
     let n = a .core * stateWords + stateWords - a .core * stateWords in
     let done = c .before .before .before .before .before .perform in
-    let h = c .before .before .before .before .before .before .before .before .before .before .pre .0 in
-    let f : a .entry < 2 ^ 64 = omega (arith, c .before .before .before .before .before .before .before .before .before .before .fits) in
-    let p = performed-here (a .board) (now (a .memory)) s (a .core) (a .entry) h f n (omega arith) (done .ensures) in
-    let own = committed-here (a .board) (now (a .memory)) s (a .core) (a .entry) h f n (omega arith) (done .ensures) in
+    let h = c .before .before .before .before .before .before .before .before .before .before .before .pre .0 in
+    let f : a .entry < 2 ^ 64 = omega (arith, c .before .before .before .before .before .before .before .before .before .before .before .fits) in
+    let p = performed-here b (now (a .memory)) s (a .core) (a .entry) h f n (omega arith) (done .ensures) in
+    let own = committed-here b (now (a .memory)) s (a .core) (a .entry) h f n (omega arith) (done .ensures) in
     executed-kept s (a .core) p own (c .if1 .left)
 
 pub execute-spec : {M : Type 1} → statement M

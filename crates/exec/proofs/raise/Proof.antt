@@ -41,9 +41,9 @@ fault-effect-requires c κs = search needs
 commit-state-requires : tie.Need-commit-state-requires
 unfolding effectBy raises
 commit-state-requires c κs =
-    let a = c .before .before .before .before .before .args in
+    let a = c .before .before .before .before .before .before .args in
     let n = a .core * stateWords + stateWords - a .core * stateWords in
-    (mid-words (now (a .states)) (a .core) (c .before .before .before .before .before .pre .0) n (omega arith), placed-as (c .fault-effect .ensures) (omega arith))
+    (mid-words (now (a .states)) (a .core) (c .before .before .before .before .before .before .pre .0) n (omega arith), (placed-as (c .fault-effect .ensures) (omega arith), c .before .before .before .before .before .before .pre .1 .1))
 
 same-length : tie.Need-same-length
 same-length c = search needs
@@ -51,14 +51,14 @@ same-length c = search needs
 returns : tie.Need-returns
 unfolding effectBy inputs raises
 returns c =
-    let a = c .before .before .before .before .before .before .before .before .args in
+    let a = c .before .before .before .before .before .before .before .before .before .args in
     let s = now (a .states) in
     let x = c .before .before .before .before .before .state-at .ensures in
     let n = a .core * stateWords + stateWords - a .core * stateWords in
     let e = c .before .before .before .fault-effect .ensures ∙ ap (λ (x : Inputs). faults x (a .fault .cause) (a .fault .eear)) x in
     let o = owned-as e (c .before .before .commit-state .ensures) in
-    let inside = c .before .before .before .before .before .before .before .before .pre .0 in
-    let own = mid-committed s (a .core) inside n (omega arith) (faults (inputs s (a .core) noFields) (a .fault .cause) (a .fault .eear)) (omega arith) (o .left) in
+    let inside = c .before .before .before .before .before .before .before .before .before .pre .0 in
+    let own = mid-committed s (a .core) inside n (omega arith) (now (a .vectors)) (faults (inputs s (a .core) noFields) (a .fault .cause) (a .fault .eear)) (omega arith) (o .left) in
     λ mem. executed-kept s (a .core) (kept o refl mem) own refl
 
 pub raise-spec : {M : Type 1} → statement M

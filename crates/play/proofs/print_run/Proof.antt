@@ -32,7 +32,7 @@ same-length-4 c = search needs
 returns : tie.Need-returns
 returns c =
     let f = c .before .before .before .before .before .before .before .before .before .before .before .before .before .before in
-    let start = f .before .before .before .before .before .before .before .before .before .before in
+    let start = f .before .before .before .before .before .before .before .before .before .before .before in
     let w = c .before .before .write-result in
     let z = start .pre .0 in
     let g = c .before .before .before .before .before .before .counts .given in
@@ -51,7 +51,7 @@ same-length-7 c = search needs
 returns-2 : tie.Need-returns-2
 returns-2 c =
     let f = c .before .before .before .before .before .before .before .before in
-    never-refused (f .fast-run .ensures) (f .before .before .before .before .before .before .before .before .before .before .pre .0) (c .enum-told .given .0 .0) (c .enum-told .given .1)
+    never-refused (f .fast-run .ensures) (f .before .before .before .before .before .before .before .before .before .before .before .pre .0) (c .enum-told .given .0 .0) (c .enum-told .given .1)
 
 pub print-run-spec : {M : Type 1} → statement M
 print-run-spec =

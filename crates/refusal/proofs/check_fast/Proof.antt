@@ -21,17 +21,17 @@ enum-known-verdict c = search needs
 
 returns : tie.Need-returns
 returns c =
-    let a = c .before .before .before .before .before .before .before .before .before .args in
-    let l = lent (now (a .memory)) (now (a .states)) (now (a .schedule)) (now (a .levels)) (a .limit) in
+    let a = c .before .before .before .before .before .before .before .before .before .before .args in
+    let l = lent (now (a .memory)) (now (a .states)) (now (a .schedule)) (now (a .levels)) (a .limit) (now (a .vectors)) in
     c .check-cache .ensures (boardOf l)
     ∙ then-cache l (now (a .cache)) (sym (c .before .before .before .check .ensures) ∙ ap verdictNumber (c .before .enum-told .given .1))
 
 returns-2 : tie.Need-returns-2
 returns-2 c =
-    let a = c .before .before .before .before .before .before .before .before .before .args in
+    let a = c .before .before .before .before .before .before .before .before .before .before .args in
     let verdict = c .before .verdict in
     let e = ap verdictNumber (sym (verdict .given .1)) ∙ c .before .before .before .check .ensures in
-    e ∙ before-cache (lent (now (a .memory)) (now (a .states)) (now (a .schedule)) (now (a .levels)) (a .limit)) (now (a .cache)) (λ z. cause-number (verdict .given .0 .0) (e ∙ z))
+    e ∙ before-cache (lent (now (a .memory)) (now (a .states)) (now (a .schedule)) (now (a .levels)) (a .limit) (now (a .vectors))) (now (a .cache)) (λ z. cause-number (verdict .given .0 .0) (e ∙ z))
 
 pub check-fast-spec : {M : Type 1} → statement M
 check-fast-spec = tie.close (tie.spec check-requires enum-told check-cache-requires enum-known-verdict returns returns-2)

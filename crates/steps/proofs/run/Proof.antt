@@ -19,8 +19,8 @@ use Rattle.steps.proofs.run.Statement.{statement}
 use Rattle.steps.proofs.run.Tie as tie
 
 abbrev Inv-loop : tie.InvT-loop
-Inv-loop memory₀ states₀ schedule levels limit cache₀ cores board straight counts₀ i₀ memory states cache counts i =
-    let board = boardOf (lent memory₀ states₀ schedule levels limit) in
+Inv-loop memory₀ states₀ schedule levels limit vectors cache₀ cores board straight counts₀ i₀ memory states cache counts i =
+    let board = boardOf (lent memory₀ states₀ schedule levels limit vectors) in
     (fastFrom board (scheduled (drop i schedule) (drop i levels)) (fastOf memory states cache counts)
     ≡ fastFrom board (scheduled schedule levels) (fastOf memory₀ states₀ cache₀ noCounts))
     × AtMost i counts
@@ -33,17 +33,17 @@ Inv-loop memory₀ states₀ schedule levels limit cache₀ cores board straight
     × (isQuiet states₀ levels ≡ true → NoneLatched states)
 
 abbrev μ-loop : tie.MeasureT-loop
-μ-loop memory₀ states₀ schedule levels limit cache₀ cores board straight counts₀ i₀ memory states cache counts i = length schedule - i
+μ-loop memory₀ states₀ schedule levels limit vectors cache₀ cores board straight counts₀ i₀ memory states cache counts i = length schedule - i
 
-cast-t15 : tie.Need-cast-t15 Inv-loop μ-loop
-cast-t15 c = search needs
+cast-t16 : tie.Need-cast-t16 Inv-loop μ-loop
+cast-t16 c = search needs
 
 straight-mode-requires : tie.Need-straight-mode-requires Inv-loop μ-loop
 straight-mode-requires c κs = search needs
 
 loop-holds : tie.Need-loop-holds Inv-loop μ-loop
 loop-holds c =
-    let p = c .before .before .before .before .before .before .before .pre in (
+    let p = c .before .before .before .before .before .before .before .before .pre in (
       refl,
       record { executed-le = omega arith; raised-le = omega arith; reused-le = omega arith },
       omega arith,
@@ -61,15 +61,15 @@ shared-slice-read-of-u8 c = search needs
 of-u8-requires : tie.Need-of-u8-requires Inv-loop μ-loop
 of-u8-requires c κs = search needs
 
-mul-t22 : tie.Need-mul-t22 Inv-loop μ-loop
-mul-t22 c = search needs
+mul-t23 : tie.Need-mul-t23 Inv-loop μ-loop
+mul-t23 c = search needs
 
-shared-slice-read-t24 : tie.Need-shared-slice-read-t24 Inv-loop μ-loop
-shared-slice-read-t24 c = search needs
+shared-slice-read-t25 : tie.Need-shared-slice-read-t25 Inv-loop μ-loop
+shared-slice-read-t25 c = search needs
 
 step-requires : tie.Need-step-requires Inv-loop μ-loop
 step-requires c κs =
-    let p = c .before .before .before .before .before .before .before .before .before .before .before .before .before .before .before .pre in
+    let p = c .before .before .before .before .before .before .before .before .before .before .before .before .before .before .before .before .pre in
     let l = c .before .before .before .before .before .before .before .loop in
     let n = p .names-cores (l .i) (c .before .before .before .before .before .before .loop-test .taken) in
     let core = c .before .before .before .before .of-u8 in
@@ -83,7 +83,7 @@ step-requires c κs =
           omega (arith, p .backed, l .inv .3, l .inv .5),
           (
             accepted .flow-lawful .pc-multiple,
-            λ q. straight-undisturbed _ _ _ _ (l .i) refl (accepted .mode-lawful) (λ z. l .inv .8 z (core .result) h) (q ∙ straight),
+            ((λ q. straight-undisturbed _ _ _ _ (l .i) refl (accepted .mode-lawful) (λ z. l .inv .8 z (core .result) h) (q ∙ straight)), p .seven-vectors),
           ),
         ),
       ),
@@ -105,22 +105,22 @@ loop-again : tie.Need-loop-again Inv-loop μ-loop
 loop-again c =
     let loop-test = c .before .before .before .before .before .before .before .before .before .before .before .before .before .before .loop-test in
     let l = c .before .before .before .before .before .before .before .before .before .before .before .before .before .before .before .loop in
-    let p = c .before .before .before .before .before .before .before .before .before .before .before .before .before .before .before .before .before .before .before .before .before .before .before .pre in
+    let p = c .before .before .before .before .before .before .before .before .before .before .before .before .before .before .before .before .before .before .before .before .before .before .before .before .pre in
     let core = c .before .before .before .before .before .before .before .before .before .before .before .before .of-u8 in
     let f = c .before .before .before .before .before .before .before .step in
     let q = c .counted .ensures in
     let n = p .names-cores (l .i) (loop-test .taken) in
     let h : core .result < coreCount (l .states) = omega (arith, n, core .ensures, l .inv .4) in
     let e = ap (fastOf _ _ _) (q .0) ∙ f .ensures .left (l .counts) in
-    let kept = step-kept _ _ _ h (l .inv .6) (l .inv .7) e in (
+    let kept = step-kept _ (p .vectors-lawful) _ _ h (l .inv .6) (l .inv .7) e in (
       ap (fastFrom _ _) e
           ∙ sym (from-next _ _ _ (l .i) _ (core .ensures) (loop-test .taken) (omega (arith, loop-test .taken, p .levels-fit)))
           ∙ l .inv .0,
       grown (l .i) (l .inv .1) (q .1),
       omega arith,
-      f .kept .1 .0 ∙ l .inv .3,
-      f .kept .1 .1 .0 ∙ l .inv .4,
-      f .kept .1 .1 .1 .0 ∙ l .inv .5,
+      f .kept .1 .1 .0 ∙ l .inv .3,
+      f .kept .1 .1 .1 .0 ∙ l .inv .4,
+      f .kept .1 .1 .1 .1 .0 ∙ l .inv .5,
       kept .0,
       kept .1,
       λ z. none-latched-kept _ _ _ (quiet-low _ _ z (l .i)) h (l .inv .6) (l .inv .7) (l .inv .8 z) e,
@@ -149,13 +149,13 @@ run-spec =
     (tie.spec
     Inv-loop
     μ-loop
-    cast-t15
+    cast-t16
     straight-mode-requires
     loop-holds
     shared-slice-read-of-u8
     of-u8-requires
-    mul-t22
-    shared-slice-read-t24
+    mul-t23
+    shared-slice-read-t25
     step-requires
     counted-requires
     add-i

@@ -1,6 +1,7 @@
 use mathlib.Core.Path.{refl, ap, _∙_}
 use mathlib.Core.List.{List}
 use Prim.Native.Nat.{ℕ}
+use denote.Ref.{now}
 use Rattle.commit.specs.Commit.{putFlow, putStatus, putAccumulated, putException, ownState}
 use borrow.Author.Needs.{needs}
 use Rattle.commit.proofs.own_state.commit_state.Statement.{statement}
@@ -27,7 +28,8 @@ same-length c = search needs
 returns : tie.Need-returns
 unfolding ownState
 returns c =
-    let e = c .before .before .before .before .before .before .before .before .before .before .before .before .before .before .before .before .before .before .before .before .before .args .e in
+    let a = c .before .before .before .before .before .before .before .before .before .before .before .before .before .before .before .before .before .before .before .before .before .before .args in
+    let e = a .e in
     let value = c .before .before .before .before .before .before .before .before .before .before .before .before .before .before .before .before .before .before .put-value .ensures in
     let flow = c .before .before .before .before .before .before .before .before .before .before .before .before .before .before .put-flow .ensures in
     let status = c .before .before .before .before .before .before .before .before .before .before .put-status .ensures in
@@ -35,7 +37,7 @@ returns c =
     let outcome = c .before .before .put-outcome .ensures in
     record {
       left =
-          outcome ∙ ap (λ (s : List ℕ). putException (e .outcome) s 0)
+          outcome ∙ ap (λ (s : List ℕ). putException (now (a .vectors)) (e .outcome) s 0)
           (accumulated ∙ ap (λ (s : List ℕ). putAccumulated (e .accumulated) s 0)
           (status ∙ ap (λ (s : List ℕ). putStatus s 0 e) (flow ∙ ap (λ (s : List ℕ). putFlow s 0 e) value)));
       ended = refl;

@@ -20,18 +20,18 @@ put-raised-requires c κs = search needs
 returns : tie.Need-returns
 unfolding putException
 returns c =
-    let a = c .before .before .before .args in
+    let a = c .before .before .before .before .args in
     let h : a .outcome ≡ Completed = at-completed (a .outcome) (c .before .match .keys1) in
-    sym (ap (λ (o : Outcome). putException o (now (a .own)) 0) h)
+    sym (ap (λ (o : Outcome). putException (now (a .vectors)) o (now (a .own)) 0) h)
 
 same-length : tie.Need-same-length
 same-length c = search needs
 
 returns-2 : tie.Need-returns-2
 returns-2 c =
-    let a = c .before .before .before .before .before .before .before .before .args in
+    let a = c .before .before .before .before .before .before .before .before .before .args in
     let o = c .before .before .before .before .before .outcome .given .1 in
-    c .before .before .put-raised .ensures ∙ ap (λ (o : Outcome). putException o (now (a .own)) 0) (sym o)
+    c .before .before .put-raised .ensures ∙ ap (λ (o : Outcome). putException (now (a .vectors)) o (now (a .own)) 0) (sym o)
 
 pub put-outcome-spec : {M : Type 1} → statement M
 put-outcome-spec = tie.close (tie.spec enum-told enum-known-outcome put-raised-requires returns same-length returns-2)

@@ -15,9 +15,9 @@ enum-told c = search needs
 
 run-requires : tie.Need-run-requires
 run-requires c κs =
-    let a = c .before .before .before .before .before .before .before .before .before .before .before .before .before .before .args in
+    let a = c .before .before .before .before .before .before .before .before .before .before .before .before .before .before .before .args in
     let accepted = sym (c .before .before .before .before .before .check-fast .ensures) ∙ ap verdictNumber (c .before .before .before .enum-told .given .1) in
-    fast-runnable (lent (now (a .memory)) (now (a .states)) (now (a .schedule)) (now (a .levels)) (a .limit)) (now (a .cache)) accepted
+    fast-runnable (lent (now (a .memory)) (now (a .states)) (now (a .schedule)) (now (a .levels)) (a .limit) (now (a .vectors))) (now (a .cache)) accepted
 
 enum-known-verdict : tie.Need-enum-known-verdict
 enum-known-verdict c = search needs
@@ -33,12 +33,12 @@ same-length-3 c = search needs
 
 returns : tie.Need-returns
 returns c =
-    let a = c .before .before .before .before .before .before .before .before .before .before .before .before .before .before .before .before .before .before .before .before .before .args in
+    let a = c .before .before .before .before .before .before .before .before .before .before .before .before .before .before .before .before .before .before .before .before .before .before .args in
     let run = c .before .before .before .before .before .before .run in
     let told = c .before .before .before .before .before .before .before .before .before .before in
     let accepted = sym (told .before .before .check-fast .ensures) ∙ ap verdictNumber (told .enum-told .given .1) in
-    fast-ran (lent (now (a .memory)) (now (a .states)) (now (a .schedule)) (now (a .levels)) (a .limit)) (now (a .cache)) _ _ _ _ accepted (run .ensures)
-    (run .kept .0) (run .kept .1 .0) (run .kept .1 .1 .1 .1 .1 .0)
+    fast-ran (lent (now (a .memory)) (now (a .states)) (now (a .schedule)) (now (a .levels)) (a .limit) (now (a .vectors))) (now (a .cache)) _ _ _ _ accepted (run .ensures)
+    (run .kept .0) (run .kept .1 .0) (run .kept .1 .1 .1 .1 .1 .1 .0)
 
 same-length-4 : tie.Need-same-length-4
 same-length-4 c = search needs
@@ -51,9 +51,9 @@ same-length-6 c = search needs
 
 returns-2 : tie.Need-returns-2
 returns-2 c =
-    let a = c .before .before .before .before .before .before .before .before .before .before .before .before .args in
+    let a = c .before .before .before .before .before .before .before .before .before .before .before .before .before .args in
     let number = ap verdictNumber (sym (c .before .verdict .given .1)) ∙ c .before .before .before .check-fast .ensures in
-    fast-refused (lent (now (a .memory)) (now (a .states)) (now (a .schedule)) (now (a .levels)) (a .limit)) (now (a .cache)) _ number
+    fast-refused (lent (now (a .memory)) (now (a .states)) (now (a .schedule)) (now (a .levels)) (a .limit) (now (a .vectors))) (now (a .cache)) _ number
 
 pub fast-run-spec : {M : Type 1} → statement M
 fast-run-spec =

@@ -1,6 +1,7 @@
 use mathlib.Core.Path.{_∙_}
 use native.Mathlib.Omega.{arith}
 use denote.Ref.{now}
+use Rattle.effect.specs.Board.{boardWith}
 use Rattle.semantics.proofs.Groups.{is-compare}
 use Rattle.exec.proofs.Performs.{writable, writes}
 use borrow.Author.Needs.{needs}
@@ -20,8 +21,8 @@ compare-requires : tie.Need-compare-requires
 compare-requires c κs = search needs
 
 write-requires : tie.Need-write-requires
-write-requires c κs = let s = c .before .before in let t = s .before .before .before .before .before .before .before .before in
-    writable (t .args .board) (now (t .args .memory)) _ _ _ _ (s .before .inputs-at .ensures) _ (s .compare .ensures ∙ is-compare _ _ _ _ (omega arith, omega arith)) (t .pre .0)
+write-requires c κs = let s = c .before .before in let t = s .before .before .before .before .before .before .before .before .before in
+    writable (boardWith (t .args .board) (now (t .args .vectors))) (now (t .args .memory)) _ _ _ _ (s .before .inputs-at .ensures) _ (s .compare .ensures ∙ is-compare _ _ _ _ (omega arith, omega arith)) (t .pre .0) (t .pre .1 .1)
 
 top-requires : tie.Need-top-requires
 top-requires c κs = search needs
@@ -51,7 +52,7 @@ same-length-6 : tie.Need-same-length-6
 same-length-6 c = search needs
 
 returns-3 : tie.Need-returns-3
-returns-3 c = let k = c .before .before .before .before in let s = k .before .before .before in let t = s .before .before .before .before .before .before .before .before in
+returns-3 c = let k = c .before .before .before .before in let s = k .before .before .before in let t = s .before .before .before .before .before .before .before .before .before in
     writes _ _ _ _ _ _ (s .before .inputs-at .ensures) _ (s .compare .ensures ∙ is-compare _ _ _ _ (omega arith, omega arith)) (k .write .ensures)
 
 same-length-7 : tie.Need-same-length-7

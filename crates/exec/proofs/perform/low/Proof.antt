@@ -1,6 +1,7 @@
 use mathlib.Core.Path.{_∙_}
 use native.Mathlib.Omega.{arith}
 use denote.Ref.{now}
+use Rattle.effect.specs.Board.{boardWith}
 use Rattle.semantics.proofs.Groups.{is-branch, is-nop-movhi, is-control, is-load}
 use Rattle.exec.proofs.Performs.{committable, performs}
 use borrow.Author.Needs.{needs}
@@ -14,8 +15,8 @@ branch-requires : tie.Need-branch-requires
 branch-requires c κs = search needs
 
 jump-requires : tie.Need-jump-requires
-jump-requires c κs = let s = c .before .before in let t = s .before .before .before .before .before .before .before in
-    committable (t .args .board) (now (t .args .memory)) _ _ _ _ (s .before .inputs-at .ensures) _ (s .branch .ensures ∙ is-branch _ _ _ _ (omega arith)) (t .pre .0)
+jump-requires c κs = let s = c .before .before in let t = s .before .before .before .before .before .before .before .before in
+    committable (boardWith (t .args .board) (now (t .args .vectors))) (now (t .args .memory)) _ _ _ _ (s .before .inputs-at .ensures) _ (s .branch .ensures ∙ is-branch _ _ _ _ (omega arith)) (t .pre .0) (t .pre .1 .1)
 
 inputs-at-requires-2 : tie.Need-inputs-at-requires-2
 inputs-at-requires-2 c κs = search needs
@@ -24,8 +25,8 @@ nop-movhi-requires : tie.Need-nop-movhi-requires
 nop-movhi-requires c κs = search needs
 
 advance-requires : tie.Need-advance-requires
-advance-requires c κs = let s = c .before .before in let t = s .before .before .before .before .before .before .before in
-    committable (t .args .board) (now (t .args .memory)) _ _ _ _ (s .before .inputs-at2 .ensures) _ (s .nop-movhi .ensures ∙ is-nop-movhi _ _ _ _ (omega arith, omega arith)) (t .pre .0)
+advance-requires c κs = let s = c .before .before in let t = s .before .before .before .before .before .before .before .before in
+    committable (boardWith (t .args .board) (now (t .args .vectors))) (now (t .args .memory)) _ _ _ _ (s .before .inputs-at2 .ensures) _ (s .nop-movhi .ensures ∙ is-nop-movhi _ _ _ _ (omega arith, omega arith)) (t .pre .0) (t .pre .1 .1)
 
 inputs-at-requires-3 : tie.Need-inputs-at-requires-3
 inputs-at-requires-3 c κs = search needs
@@ -34,8 +35,8 @@ control-requires : tie.Need-control-requires
 control-requires c κs = search needs
 
 jump-requires-2 : tie.Need-jump-requires-2
-jump-requires-2 c κs = let s = c .before .before in let t = s .before .before .before .before .before .before .before in
-    committable (t .args .board) (now (t .args .memory)) _ _ _ _ (s .before .inputs-at3 .ensures) _ (s .control .ensures ∙ is-control _ _ _ _ (omega arith, omega arith)) (t .pre .0)
+jump-requires-2 c κs = let s = c .before .before in let t = s .before .before .before .before .before .before .before .before in
+    committable (boardWith (t .args .board) (now (t .args .vectors))) (now (t .args .memory)) _ _ _ _ (s .before .inputs-at3 .ensures) _ (s .control .ensures ∙ is-control _ _ _ _ (omega arith, omega arith)) (t .pre .0) (t .pre .1 .1)
 
 inputs-at-requires-4 : tie.Need-inputs-at-requires-4
 inputs-at-requires-4 c κs = search needs
@@ -44,8 +45,8 @@ load-requires : tie.Need-load-requires
 load-requires c κs = search needs
 
 advance-requires-2 : tie.Need-advance-requires-2
-advance-requires-2 c κs = let s = c .before .before in let t = s .before .before .before .before .before .before .before .before in
-    committable (t .args .board) (now (t .args .memory)) _ _ _ _ (s .before .inputs-at4 .ensures) _ (s .load .ensures ∙ is-load _ _ _ _ (omega arith, omega arith)) (t .pre .0)
+advance-requires-2 c κs = let s = c .before .before in let t = s .before .before .before .before .before .before .before .before .before in
+    committable (boardWith (t .args .board) (now (t .args .vectors))) (now (t .args .memory)) _ _ _ _ (s .before .inputs-at4 .ensures) _ (s .load .ensures ∙ is-load _ _ _ _ (omega arith, omega arith)) (t .pre .0) (t .pre .1 .1)
 
 same-length : tie.Need-same-length
 same-length c = search needs
@@ -54,7 +55,7 @@ same-length-2 : tie.Need-same-length-2
 same-length-2 c = search needs
 
 returns : tie.Need-returns
-returns c = let k = c .before .before .before .before in let s = k .before .before .before in let t = s .before .before .before .before .before .before .before in
+returns c = let k = c .before .before .before .before in let s = k .before .before .before in let t = s .before .before .before .before .before .before .before .before in
     performs _ _ _ _ _ _ (s .before .inputs-at .ensures) _ (s .branch .ensures ∙ is-branch _ _ _ _ (omega arith)) (k .jump .ensures)
 
 same-length-3 : tie.Need-same-length-3
@@ -64,7 +65,7 @@ same-length-4 : tie.Need-same-length-4
 same-length-4 c = search needs
 
 returns-2 : tie.Need-returns-2
-returns-2 c = let k = c .before .before .before .before in let s = k .before .before .before in let t = s .before .before .before .before .before .before .before in
+returns-2 c = let k = c .before .before .before .before in let s = k .before .before .before in let t = s .before .before .before .before .before .before .before .before in
     performs _ _ _ _ _ _ (s .before .inputs-at2 .ensures) _ (s .nop-movhi .ensures ∙ is-nop-movhi _ _ _ _ (omega arith, omega arith)) (k .advance .ensures)
 
 same-length-5 : tie.Need-same-length-5
@@ -74,7 +75,7 @@ same-length-6 : tie.Need-same-length-6
 same-length-6 c = search needs
 
 returns-3 : tie.Need-returns-3
-returns-3 c = let k = c .before .before .before .before in let s = k .before .before .before in let t = s .before .before .before .before .before .before .before in
+returns-3 c = let k = c .before .before .before .before in let s = k .before .before .before in let t = s .before .before .before .before .before .before .before .before in
     performs _ _ _ _ _ _ (s .before .inputs-at3 .ensures) _ (s .control .ensures ∙ is-control _ _ _ _ (omega arith, omega arith)) (k .jump2 .ensures)
 
 same-length-7 : tie.Need-same-length-7
@@ -84,7 +85,7 @@ same-length-8 : tie.Need-same-length-8
 same-length-8 c = search needs
 
 returns-4 : tie.Need-returns-4
-returns-4 c = let k = c .before .before .before .before in let s = k .before .before .before in let t = s .before .before .before .before .before .before .before .before in
+returns-4 c = let k = c .before .before .before .before in let s = k .before .before .before in let t = s .before .before .before .before .before .before .before .before .before in
     performs _ _ _ _ _ _ (s .before .inputs-at4 .ensures) _ (s .load .ensures ∙ is-load _ _ _ _ (omega arith, omega arith)) (k .advance2 .ensures)
 
 pub low-spec : {M : Type 1} → statement M

@@ -6,10 +6,11 @@ use Prim.Native.Nat.{_/_, _-_, _≤_}
 use lib.ListN.{length}
 use borrow.Author.Tests.{not-true, not-false}
 use Rattle.effect.specs.State.{stateWords}
-use Rattle.effect.specs.declared.types.Board.{Board}
+use Rattle.effect.specs.Board.{Board}
 use Rattle.lawful.specs.Accepted.{accepted}
-use Rattle.refusal.specs.Refusal.{everyBelow, statesObey}
-use Rattle.refusal.proofs.Tests.{below-next, below-stop}
+use Rattle.refusal.specs.Refusal.{statesObey}
+use Rattle.bits.specs.Every.{everyBelow}
+use Rattle.bits.proofs.Every.{below-next, below-stop}
 use borrow.Author.Needs.{needs}
 use Rattle.refusal.proofs.states.states_accepted.Statement.{statement}
 use Rattle.refusal.proofs.states.states_accepted.Tie as tie

@@ -1,0 +1,8 @@
+-- A test at every number below another.
+use mathlib.Core.Bool.{Bool, true, _&&_}
+use Prim.Native.Nat.{ℕ, zero, suc}
+
+-- f passes at every number below n
+unfoldable pub everyBelow : ℕ → (ℕ → Bool) → Bool
+everyBelow zero f = true
+everyBelow (suc n) f = everyBelow n f && f n

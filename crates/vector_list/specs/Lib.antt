@@ -1,0 +1,2 @@
+-- The rules on a list of vectors.
+pub mod Rules
