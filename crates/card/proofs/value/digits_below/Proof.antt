@@ -7,8 +7,8 @@ use Rattle.text.specs.Digits.{digit}
 use Rattle.card.specs.Card.{digitsBelow}
 use Rattle.card.proofs.Laws.{every-at, every-end}
 use borrow.Author.Needs.{needs}
-use Rattle.card.proofs.digits_below.Statement.{statement}
-use Rattle.card.proofs.digits_below.Tie as tie
+use Rattle.card.proofs.value.digits_below.Statement.{statement}
+use Rattle.card.proofs.value.digits_below.Tie as tie
 
 abbrev Inv-loop : tie.InvT-loop
 Inv-loop text n i₀ i = digitsBelow n (drop i text) ≡ digitsBelow n text
