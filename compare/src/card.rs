@@ -1,7 +1,7 @@
 //! The run card: reading one, and the whole output of running it.
 
 use crate::runs::{self, Answer, Lent};
-use crate::state::{place, Core, SHEET_WORDS};
+use crate::state::{place, sr_is_good, Core, SHEET_WORDS};
 use crate::vectors::Vectors;
 use std::fmt::Write;
 
@@ -16,8 +16,21 @@ pub struct Job {
     pub cores: usize,
     pub memory: usize,
     pub entry: u32,
+    pub sr: u32,
     /// The card's digits repeated up to its steps.
     pub schedule: Vec<u8>,
+}
+
+impl Job {
+    /// The sheets that its run begins with. 02, note 7: the line sr "sets SR of every
+    /// core"; the rest, ESR too, is as at reset.
+    pub fn sheets(&self) -> Vec<u32> {
+        let mut sheets = reset_sheets(self.cores, self.entry);
+        for sheet in sheets.chunks_mut(SHEET_WORDS) {
+            sheet[place::SR] = self.sr;
+        }
+        sheets
+    }
 }
 
 /// The refusal's number and the line it names.
@@ -139,6 +152,32 @@ fn read_hexadecimal(digits: &[u8]) -> Option<u32> {
     Some(number)
 }
 
+/// What the lines before the w lines say.
+struct Header {
+    cores: usize,
+    memory: usize,
+    entry: u32,
+    sr: u32,
+    steps: usize,
+    digits: Vec<u8>,
+    words: usize,
+}
+
+impl Header {
+    /// One row for each line, in their order; sr is 02's, by note 7.
+    fn read(lines: &mut Lines) -> Result<Header, Fault> {
+        let in_memory = |bytes: usize| (4_096..=16_384).contains(&bytes) && bytes.is_multiple_of(4);
+        let cores = lines.decimal("cores", |cores| (1..=4).contains(&cores))?;
+        let memory = lines.decimal("memory", in_memory)?;
+        let entry = lines.hexadecimal("entry", |entry| entry.is_multiple_of(4))?;
+        let sr = lines.hexadecimal("sr", sr_is_good)?;
+        let steps = lines.decimal("steps", |steps| steps <= 16_384)?;
+        let digits = lines.schedule(cores)?;
+        let words = lines.decimal("words", |words| words <= memory / 4)?;
+        Ok(Header { cores, memory, entry, sr, steps, digits, words })
+    }
+}
+
 /// Reads a card. Only a good card zeroes the first memory bytes of the image
 /// and fills them with its words.
 pub fn parse(card: &[u8], image: &mut [u8]) -> Result<Job, Fault> {
@@ -146,21 +185,13 @@ pub fn parse(card: &[u8], image: &mut [u8]) -> Result<Job, Fault> {
         return Err(Fault { refusal: 1, line: 0 });
     }
     let mut lines = Lines::of(card)?;
-    let cores = lines.decimal("cores", |cores| (1..=4).contains(&cores))?;
-    let in_memory = |bytes: usize| (4_096..=16_384).contains(&bytes) && bytes.is_multiple_of(4);
-    let memory = lines.decimal("memory", in_memory)?;
-    let entry = lines.hexadecimal("entry", |entry| entry.is_multiple_of(4))?;
-    let steps = lines.decimal("steps", |steps| steps <= 16_384)?;
-    let digits = lines.schedule(cores)?;
-    let count = lines.decimal("words", |words| words <= memory / 4)?;
-    let mut words = Vec::with_capacity(count);
-    for _ in 0..count {
-        words.push(lines.hexadecimal("w", |_| true)?);
-    }
+    let Header { cores, memory, entry, sr, steps, digits, words } = Header::read(&mut lines)?;
+    let words = (0..words).map(|_| lines.hexadecimal("w", |_| true));
+    let words = words.collect::<Result<Vec<u32>, Fault>>()?;
     lines.finish()?;
     fill(&mut image[..memory], &words);
     let schedule = digits.into_iter().cycle().take(steps).collect();
-    Ok(Job { cores, memory, entry, schedule })
+    Ok(Job { cores, memory, entry, sr, schedule })
 }
 
 fn fill(memory: &mut [u8], words: &[u32]) {
@@ -170,7 +201,7 @@ fn fill(memory: &mut [u8], words: &[u32]) {
     }
 }
 
-/// The sheets of cores just reset, all at the card's entry.
+/// The sheets of cores just reset, all at one entry.
 pub fn reset_sheets(cores: usize, entry: u32) -> Vec<u32> {
     let mut sheets = vec![0; cores * SHEET_WORDS];
     for sheet in sheets.chunks_mut(SHEET_WORDS) {
@@ -226,7 +257,7 @@ impl std::fmt::Display for Fault {
 fn run(vectors: &Vectors, card: &[u8], fast_run: FastRun) -> Result<String, Fault> {
     let mut image = vec![0; IMAGE_BYTES];
     let job = parse(card, &mut image)?;
-    let mut sheets = reset_sheets(job.cores, job.entry);
+    let mut sheets = job.sheets();
     let packed = fast_run(&mut Lent {
         memory: &mut image[..job.memory],
         sheets: &mut sheets,

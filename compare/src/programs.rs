@@ -361,6 +361,11 @@ pub fn trapping_start(rng: &mut Rng) -> [u32; 10] {
     forms.map(|form| isa::encode(form.entry()) as u32)
 }
 
+/// The start of a program that puts SR and ESR, as they are then, in r28 and r29.
+pub fn looking_start() -> Vec<u32> {
+    words(&[insn(Kind::Mfspr, 28, 0, 0, 17), insn(Kind::Mfspr, 29, 0, 0, 64)])
+}
+
 /// A handler for interrupts. It clears what is latched, or what it read of it, or
 /// the lowest line alone; or it masks lines first; or it does nothing, so that the
 /// next interrupt comes at once.

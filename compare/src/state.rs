@@ -173,6 +173,11 @@ pub fn allowed_sr(value: u32) -> u32 {
     value & SR_BITS | FIXED_ONE
 }
 
+/// Whether a sheet's SR or ESR may have a value.
+pub fn sr_is_good(value: u32) -> bool {
+    value == allowed_sr(value)
+}
+
 /// Whether a sheet of 46 words keeps every rule of "Sheets" and "a PICMR without
 /// its low two bits meets 3"; MACHI, MACLO and PICSR may be anything.
 pub fn sheet_is_good(sheet: &[u32]) -> bool {
@@ -184,7 +189,7 @@ pub fn sheet_is_good(sheet: &[u32]) -> bool {
         && aligned.iter().all(|&word| sheet[word].is_multiple_of(4))
         && delay <= 1
         && (delay == 1 || sheet[place::TARGET] == 0)
-        && status.iter().all(|&word| sheet[word] == allowed_sr(sheet[word]))
+        && status.iter().all(|&word| sr_is_good(sheet[word]))
         && link <= 1
         && (link == 1 || sheet[place::LINK_ADDRESS] == 0)
         && (sheet[place::MODE] == 0 || sheet[place::MODE] == RUNNING)

@@ -4,10 +4,10 @@
 mod common;
 
 use common::files;
+use common::wrong_reader::{self, ask, by_number, hexadecimal, reading, WrongReader};
 use common::wrong_refusal::{self, turning, Asked, Turn, WrongRefusal};
 use common::wrong_step::{assert_passed, assert_stopped};
 use common::wrong_vector::{going, Raised, WrongVector};
-use compare::battery;
 use compare::card::{self, Fault, File};
 use compare::cards;
 use compare::exec::{self, Cause::*};
@@ -432,16 +432,6 @@ fn lists_wrongly_refused_are_stopped() {
     wrong_refusal::assert_stopped(&WRONGLY_REFUSED);
 }
 
-/// A runner that reads the file of vectors wrongly.
-struct WrongReader {
-    name: &'static str,
-    output: fn(&File, &[u8]) -> String,
-}
-
-const fn reading(name: &'static str, output: fn(&File, &[u8]) -> String) -> WrongReader {
-    WrongReader { name, output }
-}
-
 /// Reads another file, if it is one of bytes.
 fn changed(file: &File, card: &[u8], change: fn(&[u8]) -> Vec<u8>) -> String {
     match file {
@@ -452,14 +442,10 @@ fn changed(file: &File, card: &[u8], change: fn(&[u8]) -> Vec<u8>) -> String {
 
 /// A file with its lines changed, each given with its place.
 fn relined(file: &File, change: impl Fn(usize, &str) -> String) -> File {
-    let File::Bytes(bytes) = file else {
-        return file.clone();
-    };
-    let Ok(text) = std::str::from_utf8(bytes) else {
-        return file.clone();
-    };
-    let lines = text.split('\n').enumerate().map(|(place, line)| change(place, line));
-    File::Bytes(lines.collect::<Vec<String>>().join("\n").into_bytes())
+    match file {
+        File::Bytes(bytes) => File::Bytes(wrong_reader::relined(bytes, change)),
+        _ => file.clone(),
+    }
 }
 
 /// Reads a file with the digits of its lines changed.
@@ -469,17 +455,6 @@ fn by_digits(file: &File, card: &[u8], change: fn(&str) -> String) -> String {
         None => line.to_string(),
     };
     card::output(&relined(file, line), card)
-}
-
-/// The address that digits are, if they are well-formed.
-fn address(digits: &str) -> Option<u32> {
-    let address = u32::from_str_radix(digits, 16).ok()?;
-    (format!("{address:08x}") == digits).then_some(address)
-}
-
-/// The same with the addresses changed.
-fn by_address(digits: &str, change: fn(u32) -> u32) -> String {
-    address(digits).map_or(digits.to_string(), |address| format!("{:08x}", change(address)))
 }
 
 /// Another fault where the file has this one.
@@ -506,7 +481,7 @@ fn good_lines(file: &File) -> Vec<u32> {
     };
     let lines = bytes.split(|&byte| byte == b'\n').zip(KEYS).map(|(line, key)| {
         let digits = std::str::from_utf8(line).ok()?.strip_prefix(key)?.strip_prefix('=')?;
-        address(digits).filter(|address| address % 4 == 0 && *address < BOUND)
+        hexadecimal(digits).filter(|address| address % 4 == 0 && *address < BOUND)
     });
     lines.take_while(Option::is_some).flatten().collect()
 }
@@ -541,7 +516,7 @@ fn reordered(file: &File, card: &[u8], order: [usize; 7]) -> String {
 /// The fault of a file whose well-formed addresses are all made good.
 fn fault_of_form(file: &File) -> Option<Fault> {
     let mend = |place: usize, line: &str| match line.split_once('=') {
-        Some((key, digits)) if address(digits).is_some() => format!("{key}={:08x}", 4 * place),
+        Some((key, digits)) if hexadecimal(digits).is_some() => format!("{key}={:08x}", 4 * place),
         _ => line.to_string(),
     };
     relined(file, mend).vectors().err()
@@ -783,17 +758,17 @@ const WRONG_FORMS: [WrongReader; 17] = [
 const WRONG_VALUES: [WrongReader; 11] = [
     reading("takes 1,048,576", |file, card| {
         by_digits(file, card, |digits| {
-            by_address(digits, |it| if it == BOUND { 0x5550 } else { it })
+            by_number(digits, |it| if it == BOUND { 0x5550 } else { it })
         })
     }),
     reading("takes any multiple of 4", |file, card| {
-        by_digits(file, card, |digits| by_address(digits, |it| it & (BOUND - 1)))
+        by_digits(file, card, |digits| by_number(digits, |it| it & (BOUND - 1)))
     }),
     reading("takes odd addresses", |file, card| {
-        by_digits(file, card, |digits| by_address(digits, |it| it & !3))
+        by_digits(file, card, |digits| by_number(digits, |it| it & !3))
     }),
     reading("takes multiples of 2", |file, card| {
-        by_digits(file, card, |digits| by_address(digits, |it| it & !2))
+        by_digits(file, card, |digits| by_number(digits, |it| it & !2))
     }),
     reading("refuses the last word", |file, card| {
         let last = good_lines(file).iter().position(|&address| address == BOUND - 4);
@@ -828,26 +803,16 @@ const WRONG_VALUES: [WrongReader; 11] = [
     reading("is one line off", |file, card| reordered(file, card, [1, 2, 3, 4, 5, 6, 0])),
 ];
 
-/// The battery's random files and cards, and then every fault on every line.
-fn ask(reader: &WrongReader, rows: &[files::Row], card: &[u8]) -> Result<(), String> {
-    let mut output = reader.output;
-    battery::printed_cards(0..600, &mut output)?;
-    for row in rows {
-        battery::same_print(&mut output, &File::Bytes(row.file.clone()), card)?;
-    }
-    Ok(())
-}
-
 #[test]
 fn wrong_readers_are_stopped() {
-    let (rows, card) = (files::rows(), files::card());
+    let questions = wrong_reader::of_files(files::rows(), &files::card());
     let all = [WRONG_FOUND.as_slice(), &WRONG_FAULTS, &WRONG_FORMS, &WRONG_VALUES];
-    for reader in all.into_iter().flatten() {
-        assert!(ask(reader, &rows, &card).is_err(), "{}", reader.name);
+    for WrongReader { name, mut output } in all.into_iter().flatten() {
+        assert!(ask(&mut output, &questions).is_err(), "{name}");
     }
-    let right = reading("right", |file, card| {
+    let mut right = |file: &File, card: &[u8]| {
         changed(file, card, <[u8]>::to_vec);
         with_fault(file, card, |fault| fault)
-    });
-    assert_eq!(ask(&right, &rows, &card), Ok(()));
+    };
+    assert_eq!(ask(&mut right, &questions), Ok(()));
 }

@@ -4,8 +4,9 @@
 mod common;
 
 use common::short::{self, core_after, core_of, counts, full, put, run, NOP, RFE, SR};
-use common::{asm, engines, BYTES};
+use common::{asm, assert_card, engines, BYTES};
 use compare::card::{self, File};
+use compare::cards::Card;
 use compare::cases::Case;
 use compare::check;
 use compare::isa::{self, Kind};
@@ -342,14 +343,9 @@ fn cards_have_all_lines_low() {
         asm(Kind::Mfspr, 6, 0, 0, PICMR),
         asm(Kind::Mfspr, 7, 0, 0, PICSR),
     ];
-    let lines: String = words.iter().map(|word| format!("w={word:08x}\n")).collect();
-    let text =
-        format!("cores=1\nmemory=4096\nentry=00000000\nsteps=8\nschedule=0\nwords=8\n{lines}");
+    let card = Card { steps: 8, words: words.to_vec(), ..Card::default() }.text();
     let expected = "executed=8\nraised=0\nreused=0\n\
         core=0 mode=3 pc=00000020 delay=0 sr=00008005\n\
         r3=00000003\nr4=ffffffff\nr5=00008005\nr6=ffffffff\nend\n";
-    assert_eq!(card::output(&File::Absent, text.as_bytes()), expected);
-    for engine in engines() {
-        check::same_card(engines()[0], engine, &File::Absent, text.as_bytes()).unwrap();
-    }
+    assert_card(&File::Absent, &card, expected);
 }

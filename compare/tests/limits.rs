@@ -4,10 +4,10 @@
 mod common;
 
 use common::short::{self, core_after, core_of, counts, full, put, run, NOP, RFE, SR};
-use common::{asm, engines, Bench, BYTES};
+use common::{asm, assert_card, Bench, BYTES};
 use compare::card::{self, File};
+use compare::cards::Card;
 use compare::cases::Case;
-use compare::check;
 use compare::dump;
 use compare::exec::Cause;
 use compare::isa::Kind::{self, *};
@@ -348,16 +348,11 @@ fn the_fast_step_has_the_limit() {
 #[test]
 fn cards_have_no_limit() {
     let words = [asm(Ori, 3, 0, 0, 0x55), asm(Sb, 0, 0, 3, 0), asm(Lwz, 4, 0, 0, 0)];
-    let lines: String = words.iter().map(|word| format!("w={word:08x}\n")).collect();
-    let text =
-        format!("cores=1\nmemory=4096\nentry=00000000\nsteps=3\nschedule=0\nwords=3\n{lines}");
+    let card = Card { steps: 3, words: words.to_vec(), ..Card::default() }.text();
     let expected = "executed=3\nraised=0\nreused=0\n\
         core=0 mode=3 pc=0000000c delay=0 sr=00008001\n\
         r3=00000055\nr4=55600055\nend\n";
-    assert_eq!(card::output(&File::Absent, text.as_bytes()), expected);
-    for engine in engines() {
-        check::same_card(engines()[0], engine, &File::Absent, text.as_bytes()).unwrap();
-    }
+    assert_card(&File::Absent, &card, expected);
 }
 
 /// A dumped case has its limit, and one without is at none.

@@ -9,10 +9,12 @@
 mod common;
 
 use common::files::{self, CARD_OUTPUT};
-use common::show;
+use common::old_cards::{self, OldCards};
+use common::sr_lines::SrLines;
+use common::{rows, show, sr_cards, stored};
 use compare::battery;
 use compare::card::{self, File};
-use compare::cards;
+use compare::cards::{self, Card};
 use compare::lists;
 use compare::rng::Rng;
 use std::fs;
@@ -200,13 +202,16 @@ fn oversized_cards() {
 #[test]
 fn the_largest_card() {
     for asked in programs("the largest card") {
-        let mut card = b"cores=4\nmemory=16384\nentry=00000000\nsteps=16384\nschedule=0123321001233210\nwords=4096\n".to_vec();
         let mut rng = Rng::new(61_000);
-        for _ in 0..4_096 {
-            let word = compare::programs::program_word(&mut rng);
-            card.extend_from_slice(format!("w={word:08x}\n").as_bytes());
-        }
-        asked.assert_card("the largest", &card);
+        let card = Card {
+            cores: 4,
+            memory: 16_384,
+            steps: 16_384,
+            schedule: "0123321001233210".to_string(),
+            words: (0..4_096).map(|_| compare::programs::program_word(&mut rng)).collect(),
+            ..Card::default()
+        };
+        asked.assert_card("the largest", &card.text());
     }
 }
 
@@ -227,24 +232,15 @@ fn cards_in_pieces() {
 /// The cards of examples/, and what is stored beside them.
 #[test]
 fn stored_cards() {
+    let paths = stored("../examples/cards", "card");
+    assert!(!paths.is_empty(), "no card");
     for asked in programs("stored cards") {
-        let mut count = 0;
-        for entry in std::fs::read_dir("../examples/cards").expect("the cards") {
-            let file = entry.expect("a file").path();
-            if file.extension().is_some_and(|extension| extension == "card") {
-                let card = std::fs::read(&file).expect("a card");
-                let expected = std::fs::read_to_string(file.with_extension("expected"));
-                assert_eq!(
-                    card::output(&File::Absent, &card),
-                    expected.expect("its output"),
-                    "{}",
-                    file.display()
-                );
-                asked.assert_card("stored", &card);
-                count += 1;
-            }
+        for path in &paths {
+            let card = fs::read(path).expect("a card");
+            let expected = fs::read_to_string(path.with_extension("expected")).expect("its output");
+            assert_eq!(card::output(&File::Absent, &card), expected, "{}", path.display());
+            asked.assert_card("stored", &card);
         }
-        assert!(count > 0, "no card");
     }
 }
 
@@ -297,17 +293,67 @@ fn reads_that_fail_beside_a_file() {
     }
 }
 
+/// 02, note 7: all values of the line sr, and every fault of it.
+#[test]
+fn starting_sr() {
+    let rows = rows::for_a_program(sr_cards::rows());
+    for asked in programs("starting SR") {
+        rows.iter().for_each(|row| asked.assert_card(&row.what, &row.text));
+        show(&format!("starting SR: {} cards asked", rows.len()));
+    }
+}
+
+/// Cards whose line sr has a fault put in on purpose, and perhaps others.
+#[test]
+fn faults_of_the_line_sr() {
+    for asked in programs("faults of the line sr") {
+        let mut met = SrLines::default();
+        for seed in 64_000..64_400 {
+            let (card, due) = cards::faulty_sr(&mut Rng::new(seed));
+            let printed = asked.printed(&card);
+            let text = String::from_utf8_lossy(&card);
+            assert_eq!(printed, due.to_string(), "seed {seed}, {}\n{text}", asked.name());
+            met.note(&card, (due.refusal, due.line));
+        }
+        met.expect_faults("faults of the line sr", 60);
+    }
+}
+
+/// "Cards taken until now lack the line and so meet 9 at line 4; with 00008001 put in,
+/// the printed run equals the earlier one."
+#[test]
+fn cards_of_before() {
+    for asked in programs("cards of before") {
+        let mut met = OldCards::default();
+        for seed in 65_000..65_300 {
+            let mut rng = Rng::new(seed);
+            let file = lists::good_or_absent(&mut rng.far_aside());
+            let old = old_cards::any_card(&mut rng);
+            asked.put(&file);
+            for (card, due) in [
+                (old.clone(), old_cards::due_without(&file, &old)),
+                (old_cards::with_sr(&old), old_cards::due_with(&file, &old)),
+            ] {
+                let text = String::from_utf8_lossy(&card);
+                assert_eq!(asked.printed(&card), due, "seed {seed}, {}\n{text}", asked.name());
+            }
+            met.note(&old);
+        }
+        met.expect("cards of before", 60);
+    }
+}
+
 /// 02, note 6: every fault of a file of vectors on every line, with a card that shows
 /// six vectors. The program leaves the file as it is.
 #[test]
 fn files_of_vectors() {
-    let (rows, card) = (files::some_rows(), files::card());
+    let (rows, card) = (rows::for_a_program(files::rows()), files::card());
     for asked in programs("files of vectors") {
         for row in &rows {
-            let file = File::Bytes(row.file.clone());
+            let file = File::Bytes(row.text.clone());
             asked.put(&file);
             asked.assert_printed(&row.what, &file, &card);
-            assert_eq!(fs::read(asked.file()).ok().as_ref(), Some(&row.file), "{}", row.what);
+            assert_eq!(fs::read(asked.file()).ok().as_ref(), Some(&row.text), "{}", row.what);
         }
         asked.put(&File::Bytes(files::good()));
         assert_eq!(asked.printed(&card), CARD_OUTPUT, "{}", asked.name());
@@ -428,14 +474,11 @@ fn links() {
 #[test]
 fn stored_cards_with_files() {
     for asked in programs("stored cards with files") {
-        for (seed, entry) in (0..).zip(fs::read_dir("../examples/cards").expect("the cards")) {
-            let path = entry.expect("a file").path();
-            if path.extension().is_some_and(|extension| extension == "card") {
-                let card = fs::read(&path).expect("a card");
-                let file = File::Bytes(lists::good_file(&mut Rng::new(63_000 + seed)));
-                asked.put(&file);
-                asked.assert_printed(&path.display().to_string(), &file, &card);
-            }
+        for (seed, path) in (63_000..).zip(stored("../examples/cards", "card")) {
+            let file = File::Bytes(lists::good_file(&mut Rng::new(seed)));
+            asked.put(&file);
+            let card = fs::read(&path).expect("a card");
+            asked.assert_printed(&path.display().to_string(), &file, &card);
         }
     }
 }

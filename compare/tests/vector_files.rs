@@ -34,13 +34,12 @@ fn every_fault_on_every_line() {
     let mut met: BTreeMap<(u8, usize), u32> = BTreeMap::new();
     let card = files::card();
     for row in files::rows() {
-        let found = read(&row.file).err();
-        let shown = String::from_utf8_lossy(&row.file[..row.file.len().min(200)]).into_owned();
+        let found = read(&row.text).err();
+        let shown = String::from_utf8_lossy(&row.text[..row.text.len().min(200)]).into_owned();
         assert_eq!(found, row.due, "{}\n{shown}", row.what);
-        let due = row.due.map_or((0, 0), |fault| (fault.refusal, fault.line));
-        *met.entry(due).or_default() += 1;
+        *met.entry(row.numbers()).or_default() += 1;
         if let Some(Fault { refusal, line }) = row.due {
-            let printed = card::output(&File::Bytes(row.file), &card);
+            let printed = card::output(&File::Bytes(row.text), &card);
             assert_eq!(printed, format!("refused={refusal} line={line}\n"), "{}", row.what);
         }
     }

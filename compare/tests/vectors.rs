@@ -4,10 +4,10 @@
 mod common;
 
 use common::short::{self, core_after, core_of, counts, put, run, NOP, RFE, SR};
-use common::{asm, engines, Bench, BYTES};
-use compare::card::{self, File};
+use common::{asm, assert_card, Bench, BYTES};
+use compare::card::File;
+use compare::cards::Card;
 use compare::cases::{self, Case};
-use compare::check;
 use compare::dump;
 use compare::exec::Cause::{self, *};
 use compare::isa::Kind::{
@@ -437,9 +437,7 @@ fn handlers_below_the_limit() {
 fn cards_with_a_file() {
     // l.trap at 4; the handler at 20 counts in r3 and halts; the old one is not there.
     let words = [NOP, TRAP, NOP, NOP, NOP, NOP, NOP, NOP, asm(Addi, 3, 3, 0, 7), 0x1500_0001];
-    let lines: String = words.iter().map(|word| format!("w={word:08x}\n")).collect();
-    let card =
-        format!("cores=1\nmemory=4096\nentry=00000000\nsteps=9\nschedule=0\nwords=10\n{lines}");
+    let card = Card { steps: 9, words: words.to_vec(), ..Card::default() }.text();
     let file = "bus=00000200\nalign=00000600\nillegal=00000700\nrange=00000b00\n\
         syscall=00000c00\ntrap=00000020\ninterrupt=00000800\n";
     let with_file = "executed=4\nraised=1\nreused=0\n\
@@ -454,10 +452,7 @@ fn cards_with_a_file() {
         (File::Bytes(old.into()), without),
     ];
     for (file, expected) in rows {
-        assert_eq!(card::output(&file, card.as_bytes()), expected, "{file:?}");
-        for engine in engines() {
-            check::same_card(engines()[0], engine, &file, card.as_bytes()).unwrap();
-        }
+        assert_card(&file, &card, expected);
     }
 }
 

@@ -1,37 +1,16 @@
-//! Files of vectors (note 6 of document 02), each with what is due for it by the paper
-//! and not by a reader.
+//! Files of vectors (note 6 of document 02), each with what is due for it.
 
+use super::rows::{self, Row, Rows};
 use super::{asm, two_places};
-use compare::card::Fault;
-use compare::cards;
+use compare::cards::{self, Card};
 use compare::isa::Kind;
 use compare::lists;
 use compare::vectors::KEYS;
 
-/// A file and its fault, or none if it is good.
-pub struct Row {
-    pub what: String,
-    pub file: Vec<u8>,
-    pub due: Option<Fault>,
-}
-
 /// No address is the old list's, and there are eight words from one to the next.
 pub const LIST: [u32; 7] = [0x120, 0x1a0, 0x140, 0x100, 0x1c0, 0x160, 0x180];
 
-/// The rows as they are made.
-#[derive(Default)]
-struct Rows(Vec<Row>);
-
 impl Rows {
-    fn add(&mut self, what: &str, file: Vec<u8>, refusal: u8, line: usize) {
-        let due = (refusal != 0).then_some(Fault { refusal, line });
-        self.0.push(Row { what: what.to_string(), file, due });
-    }
-
-    fn lines(&mut self, what: &str, lines: &[String], refusal: u8, line: usize) {
-        self.add(what, cards::join(lines), refusal, line);
-    }
-
     fn list(&mut self, what: &str, list: &[u32], refusal: u8, line: usize) {
         self.lines(what, &lists::lines(list), refusal, line);
     }
@@ -59,67 +38,10 @@ fn line(place: usize, value: &str) -> String {
     format!("{}={value}", KEYS[place])
 }
 
-/// Ill-formed lines for a place of the list.
-fn ill_formed(place: usize) -> Vec<String> {
-    let (key, next) = (KEYS[place], KEYS[(place + 1) % 7]);
-    let value = format!("{:08x}", LIST[place]);
-    let mut lines = vec![
-        String::new(),
-        format!("{}={value}", key.to_uppercase()),
-        format!("{key}s={value}"),
-        format!("{}={value}", &key[1..]),
-        format!("{}={value}", &key[..key.len() - 1]),
-        format!("{next}={value}"),
-        format!("={value}"),
-        value.clone(),
-        key.to_string(),
-        format!("{key}="),
-        format!("{key}{value}"),
-        format!("{key}:{value}"),
-        format!("{key}=={value}"),
-        format!(" {key}={value}"),
-        format!("{key} ={value}"),
-        format!("{key}= {value}"),
-        format!("{key}={value} "),
-        format!("\t{key}={value}"),
-        format!("{key}={value}\r"),
-        format!("\r{key}={value}"),
-        format!("{key}={value}\0"),
-        format!("{key}={value};"),
-        format!("{key}={value}={value}"),
-        format!("{key}={value}{next}={value}"),
-    ];
-    let values = [
-        "0",
-        "200",
-        "0000200",
-        "000000200",
-        "0x000200",
-        "0X000200",
-        "00000200h",
-        "+0000200",
-        "-0000200",
-        "0000 200",
-        "0000020g",
-        "0000_200",
-        "000002.0",
-        "00000200.",
-        "٠٠٠٠",
-        "zzzzzzzz",
-    ];
-    lines.extend(values.map(|value| format!("{key}={value}")));
-    // Each digit alone in upper case.
-    for digit in 0..8 {
-        let mut value = *b"00000000";
-        value[digit] = b'C';
-        lines.push(format!("{key}={}", String::from_utf8_lossy(&value)));
-    }
-    lines
-}
-
 fn put_form_faults(rows: &mut Rows) {
     for place in 0..7 {
-        for text in ill_formed(place) {
+        let (key, next) = (KEYS[place], KEYS[(place + 1) % 7]);
+        for text in rows::ill_formed(key, next, &format!("{:08x}", LIST[place])) {
             let mut lines = lines();
             lines[place] = text;
             rows.lines("ill-formed line", &lines, 9, place + 1);
@@ -288,22 +210,6 @@ pub fn rows() -> Vec<Row> {
     rows.0
 }
 
-/// Of these what is asked of a program, which takes longer: a third of the ill-formed
-/// lines and half of the cuts.
-pub fn some_rows() -> Vec<Row> {
-    let (mut rows, mut number) = (rows(), 0);
-    rows.retain(|row| match row.what.as_str() {
-        // Other ones on each line, so that there are all of them.
-        "ill-formed line" => {
-            number += 1;
-            (number + row.due.map_or(0, |fault| fault.line)) % 3 == 0
-        }
-        "cut" => row.file.len() % 2 == 0,
-        _ => true,
-    });
-    rows
-}
-
 /// What a handler does: it adds its number, as a hexadecimal digit, to r3 and goes on
 /// so many bytes after EPCR.
 fn handler(number: u32, skip: u32) -> [u32; 6] {
@@ -339,8 +245,7 @@ pub fn card() -> Vec<u8> {
         let handler = handler(place as u32 + 1, if place == 4 { 0 } else { 4 });
         words[vector as usize / 4..][..handler.len()].copy_from_slice(&handler);
     }
-    let lines: String = words.iter().map(|word| format!("w={word:08x}\n")).collect();
-    format!("cores=1\nmemory=4096\nentry=00000000\nsteps=60\nschedule=0\nwords=128\n{lines}").into()
+    Card { steps: 60, words, ..Card::default() }.text()
 }
 
 /// Its whole output with `good()`: 10 instructions and 6 handlers of 6.

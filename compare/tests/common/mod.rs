@@ -2,24 +2,31 @@
 //! do with lines to show and with disagreements.
 #![allow(dead_code)]
 
+pub mod by_lines;
 pub mod fields;
 pub mod files;
 pub mod interrupts;
 pub mod limits;
 pub mod list;
+pub mod old_cards;
 pub mod products;
 pub mod registration;
+pub mod rows;
 pub mod short;
+pub mod sr_cards;
+pub mod sr_lines;
 pub mod sums;
 pub mod vectors;
 pub mod watch;
 pub mod wrong_interrupt;
 pub mod wrong_lists;
+pub mod wrong_reader;
 pub mod wrong_refusal;
 pub mod wrong_step;
 pub mod wrong_vector;
 
-use compare::check::{Engine, BY_CACHE, BY_HISTORY};
+use compare::card::{self, File};
+use compare::check::{self, Engine, BY_CACHE, BY_HISTORY};
 use compare::exec::{Board, Step};
 use compare::isa::{self, Insn, Kind};
 use compare::runs;
@@ -38,6 +45,14 @@ pub fn engines() -> Vec<&'static dyn Engine> {
         #[cfg(feature = "engine")]
         &compare::guard::Guarded(&compare::engine::Archive),
     ]
+}
+
+/// A file of vectors and a card print this, by every engine.
+pub fn assert_card(file: &File, card: &[u8], expected: &str) {
+    assert_eq!(card::output(file, card), expected, "{file:?}, {}", String::from_utf8_lossy(card));
+    for engine in engines() {
+        check::same_card(&BY_HISTORY, engine, file, card).unwrap();
+    }
 }
 
 /// One to four cores and 4,096 bytes.
@@ -124,9 +139,29 @@ impl Xorshift {
     }
 }
 
+/// The files of a folder that have an extension.
+pub fn stored(folder: &str, extension: &str) -> Vec<PathBuf> {
+    let files = std::fs::read_dir(folder).expect("the folder");
+    let paths = files.map(|entry| entry.expect("a file").path());
+    paths.filter(|path| path.extension().is_some_and(|found| found == extension)).collect()
+}
+
 /// Not by `eprintln`, which a test that passes does not show.
 pub fn show(text: &str) {
     let _ = writeln!(std::io::stderr(), "{text}");
+}
+
+/// Shows counts, each as its class, the number and its least number. Stops if one is
+/// smaller than that.
+pub fn expect_counts(what: &str, all: impl IntoIterator<Item = (String, u32, u32)>) {
+    let mut short = vec![];
+    for (class, count, least) in all {
+        show(&format!("{what}, {class}: {count}"));
+        if count < least {
+            short.push(format!("{class}: {count} of {least}"));
+        }
+    }
+    assert!(short.is_empty(), "{what}: {short:#?}");
 }
 
 /// Where the case of a disagreement is kept.

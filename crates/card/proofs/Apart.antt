@@ -1,4 +1,4 @@
--- A reader taken apart, for the walks of `next` and `finish`: each calls a function on the slice and what was reached.
+-- A reader taken apart, for the walks of `header` and `finish`: each calls a function on the slice and what was reached.
 -- Assumes nothing.
 use mathlib.Core.Path.{_≡_}
 use mathlib.Core.List.{[], _∷_}

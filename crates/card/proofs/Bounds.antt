@@ -10,23 +10,26 @@ use lib.Dec.{T, eqb, ltb, leb}
 use lib.ListN.{length, take, drop, length-map, length-drop}
 use lib.Seq.{length-take-le}
 use Rattle.bits.specs.Choice.{if_then_else_}
+use Rattle.bits.proofs.Tests.{and-left, and-right, of-T, T-of}
+use Rattle.arith.specs.Status.{allowed}
 use Rattle.text.specs.Ascii.{ascii}
 use Rattle.text.specs.Digits.{digit}
+use Rattle.text.specs.Numbers.{within, decimal, hexadecimal}
 use Rattle.text.specs.Lines.{Line, lines}
 use Rattle.text.specs.Inner.{lineEnd, afterLines}
 use Rattle.text.specs.declared.Parsed.{Parsed}
 use Rattle.text.specs.declared.Parsed.the-variants.{Number, Nothing}
 use Rattle.text.proofs.Laws.{textAt}
-use Rattle.card.specs.Card.{Field, value, fault, limited, schedule, word, every, digitsBelow, Step, step, stop, first, onward, line, wordLines, noneLeft, content, cardSays, Left, Verdict, good, refused, Job, formFault, valueFault, maxCard, maxWord, maxCores, minMemory, maxMemory, maxSteps, maxDigits}
+use Rattle.card.specs.Card.{Field, value, fault, tested, limited, status, schedule, word, every, digitsBelow, Step, step, stop, first, onward, line, wordLines, noneLeft, content, cardSays, Left, Verdict, good, refused, Job, formFault, valueFault, maxCard, maxWord, maxCores, minMemory, maxMemory, maxSteps, maxDigits}
 use Rattle.card.specs.Answer.{headerLines, beforeSchedule, placed, answered, more, wordsFrom, job, jobAt, Sound, Bounds}
-use Rattle.card.specs.Inner.{parsedBy, left}
+use Rattle.card.specs.Inner.{left}
 use Rattle.card.specs.declared.Job as code
 use Rattle.card.proofs.Whole.{by-place}
 
 pub never : {A B : Type 0} {f n : ℕ} {j : B} → refused f n ≡ good j → A
 never e = absurd (let z : _≡_ {A = ℕ} 0 1 = cc in omega arith)
 
-no-value : {A B : Type 0} {f : ℕ} {v : B} → fault f ≡ value v → A
+pub no-value : {A B : Type 0} {f : ℕ} {v : B} → fault f ≡ value v → A
 no-value e = absurd (let z : _≡_ {A = ℕ} 0 1 = cc in omega arith)
 
 -- the line after i others of a good card has a text that means a value, and what follows is good
@@ -37,43 +40,57 @@ by-line : {A P : Type 0} (key : String) (f : List ℕ → Field A) (card : List 
     → P
 by-line {P = P} key f card i k {j} e go = by-place (λ s. onward (suc i) s k ≡ good j → P) (ascii key) f card (afterLines card i) (λ m e. never e) go e
 
+-- a number that passed a test
+tested-if : (f : ℕ → Bool) (v : ℕ) {w : ℕ} (b : Bool) → f v ≡ b → _≡_ {A = Field ℕ} (if b then value v else fault valueFault) (value w) → T (f w)
+tested-if f v {w} true p e = let s : v ≡ w = cc in let t : T (f v) = T-of (f v) p in rw s at t
+tested-if f v false p e = no-value e
+
+tested-value : (f : ℕ → Bool) (p : Parsed) {w : ℕ} → tested f p ≡ value w → T (f w)
+tested-value f (Number v) e = tested-if f v (f v) refl e
+tested-value f Nothing e = no-value e
+
 pub record Within (low high m v : ℕ) : Type 0 where
   pub above : low ≤ v
   pub below : v ≤ high
   pub multiple : v % m ≡ 0
 
-limited-tests : (low high m v w : ℕ) (a b c : Bool) → leb low v ≡ a → leb v high ≡ b → eqb (v % m) 0 ≡ c
-    → _≡_ {A = Field ℕ} (if (a && b) && c then value v else fault valueFault) (value w) → Within low high m w
-limited-tests low high m v w true true true p q r e =
-    let s : v ≡ w = cc in
-    let h : Within low high m v = record { above = leb-true _ _ p; below = leb-true _ _ q; multiple = eqb-true _ _ r } in
-    rw s at h
-limited-tests low high m v w true true false p q r e = no-value e
-limited-tests low high m v w true false c p q r e = no-value e
-limited-tests low high m v w false b c p q r e = no-value e
-
 pub limited-value : (low high m : ℕ) (p : Parsed) {w : ℕ} → limited low high m p ≡ value w → Within low high m w
-limited-value low high m (Number v) {w} e = limited-tests low high m v w (leb low v) (leb v high) (eqb (v % m) 0) refl refl refl e
-limited-value low high m Nothing e = no-value e
+limited-value low high m p {w} e =
+    let t = tested-value (λ v. within low high v && eqb (v % m) 0) p e in
+    let b = eqb (w % m) 0 in
+    let k = and-left (within low high w) b t in
+    record {
+      above = leb-true _ _ (of-T _ (and-left (leb low w) (leb w high) k));
+      below = leb-true _ _ (of-T _ (and-right (leb low w) (leb w high) k));
+      multiple = eqb-true _ _ (of-T b (and-right (within low high w) b t));
+    }
 
--- a line with a number
-by-number : {P : Type 0} (key : String) (hex : Bool) (low high m : ℕ) (card : List ℕ) (i : ℕ) (k : ℕ → Left → Verdict Job) {j : Job}
-    → line key (λ t. limited low high m (parsedBy hex t)) (left card (afterLines card i) (suc i)) k ≡ good j
+-- a line with a number: how it is written, and its limits
+by-number : {P : Type 0} (key : String) (parse : List ℕ → Parsed) (low high m : ℕ) (card : List ℕ) (i : ℕ) (k : ℕ → Left → Verdict Job) {j : Job}
+    → line key (λ t. limited low high m (parse t)) (left card (afterLines card i) (suc i)) k ≡ good j
     → ((v : ℕ) → Within low high m v → k v (left card (lineEnd card (afterLines card i) + 1) (suc i + 1)) ≡ good j → P) → P
-by-number key hex low high m card i k e go =
-    let text = parsedBy hex (textAt (ascii key) card (afterLines card i)) in
-    by-line key (λ t. limited low high m (parsedBy hex t)) card i k e (λ v s _ _ e. go v (limited-value low high m text s) e)
+by-number key parse low high m card i k e go =
+    let text = parse (textAt (ascii key) card (afterLines card i)) in
+    by-line key (λ t. limited low high m (parse t)) card i k e (λ v s _ _ e. go v (limited-value low high m text s) e)
+
+-- the line with the SR
+by-status : {P : Type 0} (key : String) (card : List ℕ) (i : ℕ) (k : ℕ → Left → Verdict Job) {j : Job}
+    → line key status (left card (afterLines card i) (suc i)) k ≡ good j
+    → ((v : ℕ) → allowed v ≡ v → k v (left card (lineEnd card (afterLines card i) + 1) (suc i + 1)) ≡ good j → P) → P
+by-status key card i k e go =
+    let text = hexadecimal (textAt (ascii key) card (afterLines card i)) in
+    by-line key status card i k e (λ v s _ _ e. go v (eqb-true _ _ (of-T _ (tested-value (λ v. eqb (allowed v) v) text s))) e)
 
 digits-below : (n : ℕ) (t : List ℕ) → digitsBelow n t ≡ every (λ d. ltb d n) (map digit t)
 digits-below n [] = refl
 digits-below n (b ∷ t) = ap (λ r. ltb (digit b) n && r) (digits-below n t)
 
 -- 1 to 16 numbers, each of a core, that a text says
-record Digits (n : ℕ) (t s : List ℕ) : Type 0 where
+pub record Digits (n : ℕ) (t s : List ℕ) : Type 0 where
   some : 1 ≤ length s
-  few : length s ≤ maxDigits
+  pub few : length s ≤ maxDigits
   named : T (every (λ d. ltb d n) s)
-  said : map digit t ≡ s
+  pub said : map digit t ≡ s
 
 schedule-tests : (n : ℕ) (t s : List ℕ) (a b c d : Bool) → leb 1 (length t) ≡ a → leb (length t) maxDigits ≡ b → digitsBelow n t ≡ d
     → _≡_ {A = Field (List ℕ)} (if (a && b) && c then if d then value (map digit t) else fault valueFault else fault formFault) (value s) → Digits n t s
@@ -87,7 +104,7 @@ schedule-tests n t s true true false d p q r e = no-value e
 schedule-tests n t s true false c d p q r e = no-value e
 schedule-tests n t s false b c d p q r e = no-value e
 
-schedule-value : (n : ℕ) (t : List ℕ) {s : List ℕ} → schedule n t ≡ value s → Digits n t s
+pub schedule-value : (n : ℕ) (t : List ℕ) {s : List ℕ} → schedule n t ≡ value s → Digits n t s
 schedule-value n t {s} e = schedule-tests n t s (leb 1 (length t)) (leb (length t) maxDigits) (digitsBelow 10 t) (digitsBelow n t) refl refl refl e
 
 -- the w lines of a good card are as many as it says, and stand where they are looked for
@@ -125,20 +142,21 @@ text-digits key card at n {s} h g d =
 content-read : (card : List ℕ) (j : Job) → content (left card 0 1) ≡ good j → Read card j
 unfolding content afterLines
 content-read card j e =
-    by-number "cores=" false 1 maxCores 1 card 0 _ e (λ a ca e.
-    by-number "memory=" false minMemory maxMemory 4 card 1 _ e (λ b cb e.
-    by-number "entry=" true 0 maxWord 4 card 2 _ e (λ c ce e.
-    by-number "steps=" false 0 maxSteps 1 card 3 _ e (λ d cd e.
-    by-line "schedule=" (schedule a) card 4 _ e (λ s es hs gs e.
-    by-number "words=" false 0 (b / 4) 1 card 5 _ e (λ n cn e.
+    by-number "cores=" decimal 1 maxCores 1 card 0 _ e (λ a ca e.
+    by-number "memory=" decimal minMemory maxMemory 4 card 1 _ e (λ b cb e.
+    by-number "entry=" hexadecimal 0 maxWord 4 card 2 _ e (λ c ce e.
+    by-status "sr=" card 3 _ e (λ r cr e.
+    by-number "steps=" decimal 0 maxSteps 1 card 4 _ e (λ d cd e.
+    by-line "schedule=" (schedule a) card 5 _ e (λ s es hs gs e.
+    by-number "words=" decimal 0 (b / 4) 1 card 6 _ e (λ n cn e.
     by-words n _ _ e (λ ws l h f e.
-    let made : good (job a b c d s ws) ≡ good j = none-good (l .rest) (l .next) e in
-    let is : job a b c d s ws ≡ j = cc in
+    let made : good (job a b c r d s ws) ≡ good j = none-good (l .rest) (l .next) e in
+    let is : job a b c r d s ws ≡ j = cc in
     let cs = schedule-value a (textAt (ascii "schedule=") card (afterLines card beforeSchedule)) es in
     let q = text-digits (ascii "schedule=") card (afterLines card beforeSchedule) a hs gs cs in
     let w : wordsFrom (length ws) (lines (drop (afterLines card headerLines) card)) ≡ ws =
     ap (λ m. wordsFrom m (lines (drop (afterLines card headerLines) card))) h ∙ f in
-    let r : Read card (job a b c d s ws) = record {
+    let t : Read card (job a b c r d s ws) = record {
       sound = record {
         cores-low = ca .above;
         cores-high = ca .below;
@@ -146,6 +164,7 @@ content-read card j e =
         memory-high = cb .below;
         memory-multiple = cb .multiple;
         entry-multiple = ce .multiple;
+        sr-allowed = cr;
         steps-high = cd .below;
         digits-low = cs .some;
         digits-high = cs .few;
@@ -153,9 +172,9 @@ content-read card j e =
         words-high = rw h (cn .below);
       };
       inside = omega (arith, q .0, hs, gs);
-      stands = ap₂ (job a b c d) (q .1) w;
+      stands = ap₂ (job a b c r d) (q .1) w;
     } in
-    rw is at r)))))))
+    rw is at t))))))))
 
 card-read : (card : List ℕ) (j : Job) (b : Bool) → leb (length card) maxCard ≡ b → cardSays card ≡ good j → Read card j
 unfolding cardSays

@@ -1,30 +1,31 @@
 -- Laws of a card's lines, as the functions that read them use them. Assumes nothing.
 use Prim.Native.Nat.{ℕ, zero, suc, _+_, _-_, _≤_, _<_}
-use mathlib.Core.Path.{_≡_, refl, ap, sym, _∙_}
+use mathlib.Core.Path.{_≡_, refl, ap, sym, subst, _∙_}
 use mathlib.Core.Bool.{Bool, true, false, _&&_}
-use mathlib.Core.List.{List, [], _∷_, map}
+use mathlib.Core.List.{List, [], _∷_}
 use native.Mathlib.Numerals.{add-one}
 use native.Mathlib.Omega.{arith}
 use native.Mathlib.Nat.{not-suc-le-zero}
-use lib.Dec.{T, eqb}
-use lib.ListN.{length, take, drop, getD, drop-of-length-le, length-drop, length-map}
-use lib.Seq.{drop-cons, length-take-le}
-use Rattle.bits.proofs.Tests.{and-left, and-right}
+use borrow.Author.Tests.{eqb-true, leb-true, ltb-true}
+use lib.Dec.{T, eqb, leb, ltb, lit<}
+use lib.ListN.{length, drop, getD, set, drop-of-length-le, length-drop}
+use lib.Seq.{drop-cons}
+use Rattle.bits.proofs.Tests.{and-left, and-right, of-T, all-entries, at-entry}
 use Rattle.text.specs.Ascii.{ascii}
-use Rattle.text.specs.Digits.{digit}
 use Rattle.text.specs.Lines.{Line, ended, cut, onto, lines, entryOf}
 use Rattle.text.specs.Inner.{lineEnd, foundIn}
 use Rattle.text.specs.declared.Found.{Found}
-use Rattle.text.specs.declared.Found.the-variants.{At}
-use Rattle.card.specs.Card.{Field, step, stop, followed, read, first, schedule, word, wordLines, noneLeft, every, Left, Verdict, good, refused, formFault}
-use Rattle.card.specs.Answer.{refusal}
-use Rattle.card.specs.Inner.{stepIn, fieldIn, Next, Ahead, scheduleIn, left, header, putSchedule, scheduleLine, close}
+use Rattle.card.specs.Card.{Field, Step, step, stop, followed, read, first, word, wordLines, noneLeft, every, Left, Verdict, good, refused, formFault}
+use Rattle.card.specs.Answer.{headerLines}
+use Rattle.card.specs.Inner.{textMeans, Sensible, stepIn, fieldIn, Next, Ahead, left, keyRoom, coresRow, memoryRow, header, noRow, keyOf, ruleOf, afterRows, rowsFrom, close}
 use Rattle.card.specs.declared.Job.{Job}
-use Rattle.card.specs.declared.Progress.{Progress}
-use Rattle.card.specs.declared.Field.the-variants as F
-use Rattle.card.specs.declared.Field as D
-use Rattle.card.specs.declared.Cause.{Cause}
-use Rattle.card.specs.declared.Check.{Check}
+use Rattle.card.specs.declared.table.Limits.{Limits}
+use Rattle.card.specs.declared.table.Limits.the-variants.{Fixed, Cores, Memory}
+use Rattle.card.specs.declared.table.Row.{Row}
+use Rattle.card.specs.declared.value.Field.the-variants as F
+use Rattle.card.specs.declared.value.Field as D
+use Rattle.card.specs.declared.value.Rule.{Rule}
+use Rattle.card.specs.declared.value.Rule.the-variants.{Decimal, Hexadecimal, Status, Digits}
 
 -- a field's number with the lines after it
 pub step-of : (card : List ℕ) (n : ℕ) (r : D.Field) → Next n r → stepIn card r ≡ followed (lines (drop n card)) (fieldIn r)
@@ -40,38 +41,87 @@ pub first-found : {A : Type 0} (key : List ℕ) (f : List ℕ → Field A) (s : 
     → first key f ls ≡ read f (foundIn s b)
 first-found key f s ls e g = ap (read f) (sym e ∙ ap (foundIn s) g)
 
--- the reader after a line with a number
-module _ (key : List ℕ) (f : List ℕ → Field ℕ) (put : ℕ → Job → Job) (card : List ℕ) (p : Progress) {r : D.Field} (s : stepIn card r ≡ first key f (lines (drop (p .at) card))) where
-  pub header-good : {v next : ℕ} → Ahead card (p .at) r → r ≡ F.Value v next → good (record { at = next; line = p .line + 1; job = put v (p .job) }) ≡ header key f put card p
-  header-good {v} {next} h e =
-      let g : Ahead card (p .at) (F.Value v next) = rw e at h in
-      let t : first key f (lines (drop (p .at) card)) ≡ step v (lines (drop next card)) = sym s ∙ ap (stepIn card) e in
-      rw (t, g .0)
+-- the header's lines one by one, as the loop reads them
+module _ (card : List ℕ) (rows : List Row) (at i : ℕ) (vs ps : List ℕ) where
+  -- what the line of row i says
+  abbrev pub lineOf : Step ℕ
+  lineOf = first (keyOf (getD rows i noRow)) (textMeans (ruleOf (getD rows i noRow .limits) (getD vs coresRow 0) (getD vs memoryRow 0))) (lines (drop at card))
 
-  pub header-bad : {c : Cause} → r ≡ F.Fault c → refused (refusal c) (p .line) ≡ header key f put card p
-  header-bad {c} e = let t : first key f (lines (drop (p .at) card)) ≡ stop (refusal c) = sym s ∙ ap (stepIn card) e in rw t
+  pub rows-next : {v : ℕ} {ls : List Line} → i < length rows → lineOf ≡ step v ls
+      → rowsFrom card (drop i rows) at i vs ps ≡ rowsFrom card (drop (i + 1) rows) (lineEnd card at + 1) (i + 1) (set vs i v) (set ps i at)
+  unfolding rowsFrom
+  rows-next h e = rw (add-one i, drop-cons rows i noRow) (simp (e, add-one))
 
--- the reader after the schedule's line
-module _ (card : List ℕ) (p : Progress) where
-  -- what it says, by the check of its text
-  pub schedule-said : {f : Found} {from end : ℕ} {k l : Check} → foundIn card f ≡ entryOf (ascii "schedule=") (lines (drop (p .at) card)) → f ≡ At from end
-      → scheduleIn (take (end - from) (drop from card)) k ≡ schedule (p .job .cores) (take (end - from) (drop from card)) → k ≡ l
-      → first (ascii "schedule=") (schedule (p .job .cores)) (lines (drop (p .at) card))
-      ≡ followed (lines (drop (end + 1) card)) (scheduleIn (take (end - from) (drop from card)) l)
-  schedule-said {f} {from} {end} e g s h =
-      first-found (ascii "schedule=") (schedule (p .job .cores)) card (lines (drop (p .at) card)) e g
-      ∙ ap (followed (lines (drop (end + 1) card))) (sym s ∙ ap (scheduleIn (take (end - from) (drop from card))) h)
+  pub rows-stop : {f : ℕ} → i < length rows → lineOf ≡ stop f → rowsFrom card (drop i rows) at i vs ps ≡ refused f (i + 1)
+  unfolding rowsFrom
+  rows-stop h e = rw (drop-cons rows i noRow) (simp e)
 
-  pub schedule-good : {from end : ℕ} → from ≡ p .at + length (ascii "schedule=") → end ≡ lineEnd card (p .at) → from ≤ end → end < length card
-      → first (ascii "schedule=") (schedule (p .job .cores)) (lines (drop (p .at) card)) ≡ step (map digit (take (end - from) (drop from card))) (lines (drop (end + 1) card))
-      → good (record { at = end + 1; line = p .line + 1; job = putSchedule from (end - from) (p .job) }) ≡ scheduleLine card p
-  schedule-good {from} {end} e h k l t =
-      let n : length (map digit (take (end - from) (drop from card))) ≡ end - from =
-      length-map (take (end - from) (drop from card)) digit ∙ length-take-le (end - from) (drop from card) (simp length-drop (omega arith)) in
-      rw (t, n, e, h)
+  pub rows-done : length rows ≤ i → rowsFrom card (drop i rows) at i vs ps ≡ good (afterRows at i vs ps)
+  unfolding rowsFrom
+  rows-done h = rw (drop-of-length-le rows)
 
-  pub schedule-bad : {n : ℕ} → first (ascii "schedule=") (schedule (p .job .cores)) (lines (drop (p .at) card)) ≡ stop n → refused n (p .line) ≡ scheduleLine card p
-  schedule-bad t = rw t
+-- a bound on an element stays where another that keeps to it is stored
+pub bound-set : (l : List ℕ) (i k v b : ℕ) → getD l k 0 ≤ b → v ≤ b → getD (set l i v) k 0 ≤ b
+bound-set [] i k v b h g = h
+bound-set (x ∷ l) zero zero v b h g = g
+bound-set (x ∷ l) zero (suc k) v b h g = h
+bound-set (x ∷ l) (suc i) zero v b h g = h
+bound-set (x ∷ l) (suc i) (suc k) v b h g = bound-set l i k v b h g
+
+-- what holds of each row of the table, by one computed test
+ruleRight : Rule → Bool
+ruleRight (Decimal low high m) = ltb 0 m
+ruleRight (Hexadecimal low high m) = ltb 0 m
+ruleRight Status = true
+ruleRight (Digits cores) = true
+
+limitsRight : Limits → Bool
+limitsRight (Fixed rule) = ruleRight rule
+limitsRight Cores = true
+limitsRight Memory = true
+
+right : ℕ → Row → Bool
+right i row = eqb (length (row .key)) keyRoom && (leb (row .length) keyRoom && limitsRight (row .limits))
+
+all-right : T (all-entries right 0 header)
+unfolding right ruleRight limitsRight
+all-right = tt
+
+sensible-rule : (rule : Rule) → T (ruleRight rule) → Sensible rule
+unfolding ruleRight
+sensible-rule (Decimal low high m) t = ltb-true 0 m (of-T _ t)
+sensible-rule (Hexadecimal low high m) t = ltb-true 0 m (of-T _ t)
+sensible-rule Status t = tt
+sensible-rule (Digits cores) t = tt
+
+sensible-of : (limits : Limits) (cores memory : ℕ) → T (limitsRight limits) → Sensible (ruleOf limits cores memory)
+unfolding limitsRight
+sensible-of (Fixed rule) cores memory t = sensible-rule rule t
+sensible-of Cores cores memory t = tt
+sensible-of Memory cores memory t = lit< tt
+
+pub record RowRight (row : Row) : Type 0 where
+  pub wide : length (row .key) ≡ keyRoom
+  pub fits : row .length ≤ keyRoom
+  pub sensible : (cores memory : ℕ) → Sensible (ruleOf (row .limits) cores memory)
+
+table-right : (i : ℕ) → i < headerLines → RowRight (getD header i noRow)
+unfolding right
+table-right i h =
+    let row = getD header i noRow in
+    let t = at-entry right noRow header all-right i h in
+    let a = eqb (length (row .key)) keyRoom in
+    let b = leb (row .length) keyRoom in
+    let c = limitsRight (row .limits) in
+    let u = and-right a (b && c) t in
+    record {
+      wide = eqb-true _ _ (of-T a (and-left a (b && c) t));
+      fits = leb-true _ _ (of-T b (and-left b c u));
+      sensible = λ cores memory. sensible-of (row .limits) cores memory (and-right b c u);
+    }
+
+pub row-right : {row : Row} (i : ℕ) → row ≡ getD header i noRow → i < headerLines → RowRight row
+row-right i e h = subst RowRight (sym e) (table-right i h)
 
 pub every-getD : (f : ℕ → Bool) (s : List ℕ) (i : ℕ) → i < length s → T (every f s) → T (f (getD s i 0))
 every-getD f [] i h t = absurd (not-suc-le-zero h)

@@ -4,3 +4,4 @@ pub mod Bounds
 mod Examples
 pub mod Apart
 pub mod Told
+pub mod Earlier

@@ -8,12 +8,12 @@ use denote.Ref.{RefT, now}
 use lib.Dec.{leb}
 use lib.ListN.{length, drop}
 use Rattle.text.specs.Ascii.{ascii}
-use Rattle.text.specs.Lines.{Line, lines, Entry}
+use Rattle.text.specs.Lines.{Line, lines, Entry, entry, missing, entryOf}
 use Rattle.text.specs.Inner.{lineEnd, afterLines}
 use Rattle.text.proofs.Laws.{textAt, Stands, nowhere, there, entry-stands}
-use Rattle.card.specs.Card.{Field, value, fault, cores, memory, entryAddress, steps, schedule, wordCount, word, Step, step, stop, followed, read, first, onward, line, wordLines, noneLeft, content, cardSays, Left, Verdict, good, refused, Job, formFault, maxCard}
+use Rattle.card.specs.Card.{Field, value, fault, cores, memory, entryAddress, status, steps, schedule, wordCount, word, Step, step, stop, followed, read, first, onward, line, wordLines, noneLeft, content, cardSays, Left, Verdict, good, Job, formFault, maxCard}
 use Rattle.card.specs.Answer.{told, andThen, headerLines, beforeSchedule, placed, answered, job}
-use Rattle.card.specs.Inner.{left, standing, startOf, headerLine, close, wordLinesOf, lastLines}
+use Rattle.card.specs.Inner.{counted, left, standing, startOf, jobOf, rowsFrom, headerFrom, headerAt, close, wordLinesOf, putImage, lastLines}
 use Rattle.card.specs.declared.Job as code
 use Rattle.card.specs.declared.Progress.{Progress}
 use Rattle.card.specs.declared.Reader.{Reader}
@@ -34,28 +34,43 @@ module _ {A : Type 0} (P : Step A → Type 0) (key : List ℕ) (f : List ℕ →
   by-place = stood (entry-stands key s at)
 
 module _ (card : List ℕ) where
-  -- the reader's moves: over a line of the header, and over all that follow it
+  -- the reader's moves: over the header, and over all that follows it
   abbrev pub move : Verdict Progress → Verdict Progress
-  move v = andThen v (headerLine card)
+  move v = andThen v (headerAt card)
 
   abbrev pub end : Verdict Progress → Verdict code.Job
   end v = andThen v (lastLines card)
 
-  -- n lines of the header, and the rest
-  abbrev pub after : ℕ → Verdict Progress → Verdict code.Job
-  after zero v = end v
-  after (suc n) v = after n (move v)
-
   abbrev pub moves : Verdict code.Job
-  moves = after headerLines (startOf card)
+  moves = end (move (startOf card))
 
-  -- the line after i others and a move over it, with what follows each
-  both : {A : Type 0} (key : String) (f : List ℕ → Field A) (i : ℕ) (k : A → Left → Verdict Job) (h : A → Progress) (go : Verdict Progress → Verdict code.Job)
-      → ((m : ℕ) → refused m (suc i) ≡ go (refused m (suc i)))
-      → ((v : A) → answered card (k v (left card (lineEnd card (afterLines card i) + 1) (suc i + 1))) ≡ go (good (h v)))
-      → answered card (line key f (left card (afterLines card i) (suc i)) k) ≡ go (onward (suc i) (first (ascii key) f (lines (drop (afterLines card i) card))) (λ v left. good (h v)))
-  both key f i k h go r e =
-      by-place (λ s. answered card (onward (suc i) s k) ≡ go (onward (suc i) s (λ v left. good (h v)))) (ascii key) f card (afterLines card i) r (λ v _ _ _. e v)
+  -- the line after i others and its row, with what follows each
+  both : (key : String) (f : List ℕ → Field ℕ) (i : ℕ) (k : ℕ → Left → Verdict Job) (go : ℕ → Verdict Progress)
+      → ((v : ℕ) → answered card (k v (left card (lineEnd card (afterLines card i) + 1) (suc i + 1))) ≡ end (go v))
+      → answered card (line key f (left card (afterLines card i) (suc i)) k) ≡ end (onward (suc i) (first (ascii key) f (lines (drop (afterLines card i) card))) (λ v left. go v))
+  both key f i k go e =
+      by-place (λ s. answered card (onward (suc i) s k) ≡ end (onward (suc i) s (λ v left. go v))) (ascii key) f card (afterLines card i) (λ m. refl) (λ v _ _ _. e v)
+
+  -- of the schedule the row keeps how many digits it has
+  counted-step : (key : List ℕ) (n i : ℕ) (ls : List Line) (go : ℕ → Verdict Progress)
+      → onward i (first key (λ t. counted (schedule n t)) ls) (λ v left. go v) ≡ onward i (first key (schedule n) ls) (λ s left. go (length s))
+  counted-step key n i ls go = of-entry (entryOf key ls)
+    where
+      of-field : (ls : List Line) (x : Field (List ℕ)) → onward i (followed ls (counted x)) (λ v left. go v) ≡ onward i (followed ls x) (λ s left. go (length s))
+      of-field ls (value s) = refl
+      of-field ls (fault f) = refl
+
+      of-entry : (e : Entry) → onward i (read (λ t. counted (schedule n t)) e) (λ v left. go v) ≡ onward i (read (schedule n) e) (λ s left. go (length s))
+      of-entry (entry t ls) = of-field ls (schedule n t)
+      of-entry missing = refl
+
+  both-counted : (key : String) (n i : ℕ) (k : List ℕ → Left → Verdict Job) (go : ℕ → Verdict Progress)
+      → ((s : List ℕ) → answered card (k s (left card (lineEnd card (afterLines card i) + 1) (suc i + 1))) ≡ end (go (length s)))
+      → answered card (line key (schedule n) (left card (afterLines card i) (suc i)) k)
+      ≡ end (onward (suc i) (first (ascii key) (λ t. counted (schedule n t)) (lines (drop (afterLines card i) card))) (λ v left. go v))
+  both-counted key n i k go e =
+      by-place (λ s. answered card (onward (suc i) s k) ≡ end (onward (suc i) s (λ s left. go (length s)))) (ascii key) (schedule n) card (afterLines card i) (λ m. refl) (λ v _ _ _. e v)
+      ∙ ap end (sym (counted-step (ascii key) n (suc i) (lines (drop (afterLines card i) card)) go))
 
   -- the w lines
   -- k and h go alike on n words
@@ -79,34 +94,33 @@ module _ (card : List ℕ) where
   close-both (l ∷ ls) n j = refl
 
   module _ (fits : leb (length card) maxCard ≡ true) where
-    -- after the header: the job so far, and n w lines to come
-    abbrev so-far : ℕ → ℕ → ℕ → ℕ → List ℕ → ℕ → ℕ → code.Job
-    so-far a b c d s n image =
-        record { cores = a; memory = b; entry = c; steps = d; schedule = afterLines card beforeSchedule + length (ascii "schedule="); digits = length s; words = n; image = image }
+    -- after the header: the values of its lines, and n w lines to come
+    abbrev so-far : ℕ → ℕ → ℕ → ℕ → ℕ → List ℕ → ℕ → code.Job
+    so-far a b c r d s n = jobOf (a ∷ b ∷ c ∷ r ∷ d ∷ length s ∷ n ∷ []) (afterLines card beforeSchedule + length (ascii "schedule="))
 
-    last-both : (a b c d : ℕ) (s : List ℕ) (n : ℕ)
-        → answered card (wordLines n (left card (afterLines card headerLines) (headerLines + 1)) (λ ws l. noneLeft (l .rest) (l .next) (good (job a b c d s ws))))
-        ≡ lastLines card (record { at = afterLines card headerLines; line = headerLines + 1; job = so-far a b c d s n 0 })
+    last-both : (a b c r d : ℕ) (s : List ℕ) (n : ℕ)
+        → answered card (wordLines n (left card (afterLines card headerLines) (headerLines + 1)) (λ ws l. noneLeft (l .rest) (l .next) (good (job a b c r d s ws))))
+        ≡ lastLines card (record { at = afterLines card headerLines; line = headerLines + 1; job = so-far a b c r d s n })
     unfolding lastLines wordLinesOf
-    last-both a b c d s n =
+    last-both a b c r d s n =
         rw fits
-        (words-both n (left card (afterLines card headerLines) (headerLines + 1)) _ (λ ws. close (so-far a b c d s n (afterLines card headerLines)))
-        (λ ws l e. close-both (l .rest) (l .next) (job a b c d s ws) ∙ ap (λ m. close (so-far a b c d s m (afterLines card headerLines)) l) e))
+        (words-both n (left card (afterLines card headerLines) (headerLines + 1)) _ (λ ws. close (putImage (afterLines card headerLines) (so-far a b c r d s n)))
+        (λ ws l e. close-both (l .rest) (l .next) (job a b c r d s ws) ∙ ap (λ m. close (putImage (afterLines card headerLines) (so-far a b c r d s m)) l) e))
 
-    header-both : answered card (content (left card 0 1)) ≡ moves
-    unfolding content headerLine afterLines
+    header-both : answered card (content (left card 0 1)) ≡ end (headerFrom card 0)
+    unfolding content rowsFrom afterLines
     header-both =
-        rw fits (
-        both "cores=" cores 0 _ _ (after 5) (λ m. refl) (λ a.
-        both "memory=" memory 1 _ _ (after 4) (λ m. refl) (λ b.
-        both "entry=" entryAddress 2 _ _ (after 3) (λ m. refl) (λ c.
-        both "steps=" steps 3 _ _ (after 2) (λ m. refl) (λ d.
-        both "schedule=" (schedule a) 4 _ _ (after 1) (λ m. refl) (λ s.
-        both "words=" (wordCount b) 5 _ _ (after 0) (λ m. refl) (last-both a b c d s)))))))
+        both "cores=" cores 0 _ _ (λ a.
+        both "memory=" memory 1 _ _ (λ b.
+        both "entry=" entryAddress 2 _ _ (λ c.
+        both "sr=" status 3 _ _ (λ r.
+        both "steps=" steps 4 _ _ (λ d.
+        both-counted "schedule=" a 5 _ _ (λ s.
+        both "words=" (wordCount b) 6 _ _ (last-both a b c r d s)))))))
 
   card-both : (b : Bool) → leb (length card) maxCard ≡ b → moves ≡ answered card (cardSays card)
-  unfolding cardSays
-  card-both true e = rw e (sym (header-both e ∙ rw e))
+  unfolding cardSays headerAt
+  card-both true e = rw e (sym (header-both e))
   card-both false e = rw e
 
   pub whole : moves ≡ answered card (cardSays card)
@@ -114,7 +128,7 @@ module _ (card : List ℕ) where
 
 -- ---- the reader's moves, one by one
 
--- what `new`, `next` and `finish` say
+-- what `new`, `header` and `finish` say
 abbrev pub Starts : RefT (List ℕ) → Reader → Type 0
 Starts s r = (r .card ≡ s) × (standing (r .reached) ≡ startOf (now s))
 

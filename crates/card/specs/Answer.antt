@@ -4,6 +4,7 @@ use mathlib.Core.Path.{_≡_}
 use mathlib.Core.List.{List, [], _∷_, map}
 use lib.ListN.{length, take, drop}
 use lib.Dec.{T, ltb}
+use Rattle.arith.specs.Status.{allowed}
 use Rattle.text.specs.Ascii.{ascii}
 use Rattle.text.specs.Digits.{digit}
 use Rattle.text.specs.Lines.{Line, lines}
@@ -34,10 +35,10 @@ andThen (refused f n) k = refused f n
 
 -- how many lines stand before the first w line, and before the schedule's
 abbrev pub headerLines : ℕ
-headerLines = 6
+headerLines = 7
 
 abbrev pub beforeSchedule : ℕ
-beforeSchedule = 4
+beforeSchedule = 5
 
 -- a job by its places in the card
 abbrev pub placed : List ℕ → Job → code.Job
@@ -45,6 +46,7 @@ placed card j = record {
   cores = j .cores;
   memory = j .memory;
   entry = j .entry;
+  sr = j .sr;
   steps = j .steps;
   schedule = afterLines card beforeSchedule + length (ascii "schedule=");
   digits = length (j .schedule);
@@ -72,11 +74,11 @@ scheduleAt card j = map digit (take (j .digits) (drop (j .schedule) card))
 abbrev pub wordsAt : List ℕ → code.Job → List ℕ
 wordsAt card j = wordsFrom (j .words) (lines (drop (j .image) card))
 
-abbrev pub job : ℕ → ℕ → ℕ → ℕ → List ℕ → List ℕ → Job
-job cores memory entry steps schedule words = record { cores = cores; memory = memory; entry = entry; steps = steps; schedule = schedule; words = words }
+abbrev pub job : ℕ → ℕ → ℕ → ℕ → ℕ → List ℕ → List ℕ → Job
+job cores memory entry sr steps schedule words = record { cores = cores; memory = memory; entry = entry; sr = sr; steps = steps; schedule = schedule; words = words }
 
 abbrev pub jobAt : List ℕ → code.Job → Job
-jobAt card j = job (j .cores) (j .memory) (j .entry) (j .steps) (scheduleAt card j) (wordsAt card j)
+jobAt card j = job (j .cores) (j .memory) (j .entry) (j .sr) (j .steps) (scheduleAt card j) (wordsAt card j)
 
 -- what a good card's job keeps to
 pub record Sound (j : Job) : Type 0 where
@@ -86,6 +88,7 @@ pub record Sound (j : Job) : Type 0 where
   pub memory-high : j .memory ≤ maxMemory
   pub memory-multiple : j .memory % 4 ≡ 0
   pub entry-multiple : j .entry % 4 ≡ 0
+  pub sr-allowed : allowed (j .sr) ≡ j .sr
   pub steps-high : j .steps ≤ maxSteps
   pub digits-low : 1 ≤ length (j .schedule)
   pub digits-high : length (j .schedule) ≤ maxDigits

@@ -1,4 +1,4 @@
--- What a run card says: document 01, "The run card", and refusals 1, 9 and 10 of "Turned back". A card is its bytes.
+-- What a run card says: document 01, "The run card", and refusals 1, 9 and 10 of "Turned back"; document 02, note 7, on the line sr. A card is its bytes.
 use Prim.Native.Nat.{ℕ, zero, suc, _+_, _/_, _%_}
 use Prim.Native.String.{String}
 use mathlib.Core.Bool.{Bool, true, _&&_}
@@ -6,6 +6,7 @@ use mathlib.Core.List.{List, [], _∷_, map}
 use lib.ListN.{length}
 use lib.Dec.{eqb, ltb, leb}
 use Rattle.bits.specs.Choice.{if_then_else_}
+use Rattle.arith.specs.Status.{allowed}
 use Rattle.text.specs.Ascii.{ascii}
 use Rattle.text.specs.Digits.{digit}
 use Rattle.text.specs.Numbers.{within, decimal, hexadecimal}
@@ -56,10 +57,14 @@ pub data Field (A : Type 0) : Type 0 where
   value : A → Field A
   fault : ℕ → Field A
 
+-- a number that f lets pass
+abbrev pub tested : (ℕ → Bool) → Parsed → Field ℕ
+tested f (Number v) = if f v then value v else fault valueFault
+tested f Nothing = fault formFault
+
 -- a number from low to high that is a multiple of m
 abbrev pub limited : ℕ → ℕ → ℕ → Parsed → Field ℕ
-limited low high m (Number v) = if within low high v && eqb (v % m) 0 then value v else fault valueFault
-limited low high m Nothing = fault formFault
+limited low high m = tested (λ v. within low high v && eqb (v % m) 0)
 
 -- "cores 1–4"
 abbrev pub cores : List ℕ → Field ℕ
@@ -72,6 +77,11 @@ memory t = limited minMemory maxMemory 4 (decimal t)
 -- "entry, a multiple of 4": eight digits have no other limit
 abbrev pub entryAddress : List ℕ → Field ℕ
 entryAddress t = limited 0 maxWord 4 (hexadecimal t)
+
+-- Document 02, note 7: "a line sr follows entry, with eight lower-case hexadecimal digits, ..
+-- A value that no sheet's SR may have is refused by 10 at that line."
+abbrev pub status : List ℕ → Field ℕ
+status t = tested (λ v. eqb (allowed v) v) (hexadecimal t)
 
 -- "steps 0–16,384"
 abbrev pub steps : List ℕ → Field ℕ
@@ -121,6 +131,7 @@ pub record Job : Type 0 where
   pub cores : ℕ
   pub memory : ℕ
   pub entry : ℕ
+  pub sr : ℕ
   pub steps : ℕ
   pub schedule : List ℕ
   pub words : List ℕ
@@ -154,18 +165,19 @@ abbrev pub noneLeft : {B : Type 0} → List Line → ℕ → Verdict B → Verdi
 noneLeft [] n v = v
 noneLeft (l ∷ ls) n v = refused formFault n
 
--- the lines "in this order"
+-- the lines "in this order"; "a line sr follows entry"
 unfoldable pub content : Left → Verdict Job
 content left =
     line "cores=" cores left (λ cores left.
     line "memory=" memory left (λ memory left.
     line "entry=" entryAddress left (λ entry left.
+    line "sr=" status left (λ sr left.
     line "steps=" steps left (λ steps left.
     line "schedule=" (schedule cores) left (λ schedule left.
     line "words=" (wordCount memory) left (λ count left.
     wordLines count left (λ words left.
     noneLeft (left .rest) (left .next)
-    (good (record { cores = cores; memory = memory; entry = entry; steps = steps; schedule = schedule; words = words })))))))))
+    (good (record { cores = cores; memory = memory; entry = entry; sr = sr; steps = steps; schedule = schedule; words = words }))))))))))
 
 -- "then the card's length, then its lines": what the lines of a text say by f
 abbrev pub whole : {A : Type 0} → List ℕ → (Left → Verdict A) → Verdict A

@@ -1,31 +1,31 @@
 // What a run card says, line by line.
 ghost use mathlib.Core.Path.{_≡_};
-ghost use Prim.Native.Nat.{_≤_, _<_};
+ghost use Prim.Native.Nat.{_≤_};
 ghost use lib.ListN.{length, drop};
 ghost use Rattle.text.specs.Ascii.{ascii};
 ghost use Rattle.text.specs.Lines.{lines};
-ghost use Rattle.card.specs.Card.{limited as limitedOf, first, schedule as scheduleOf, digitsBelow, word, cardSays, maxCard};
-ghost use Rattle.card.specs.Answer.{refusal, told, andThen, headerLines, answered};
-ghost use Rattle.card.specs.Inner.{parsedBy, numberText, fieldIn, Next, stepIn, Ahead, scheduleIn, standing, startOf, header, putOf, scheduleLine, headerLine, wordLinesOf, lastLines};
-use text::Found;
-use text::Parsed;
+ghost use Rattle.card.specs.Card.{first, word, cardSays, maxCard};
+ghost use Rattle.card.specs.Answer.{refusal, told, andThen, answered};
+ghost use Rattle.card.specs.Inner.{stepIn, Ahead, standing, startOf, jobOf, headerFrom, headerAt, wordLinesOf, lastLines};
+use crate::table::CORES;
+use crate::table::ENTRY;
+use crate::table::LINES;
+use crate::table::MEMORY;
+use crate::table::SCHEDULE;
+use crate::table::SCHEDULE_KEY;
+use crate::table::SR;
+use crate::table::STEPS;
+use crate::table::WORDS;
+use crate::value::Field;
+use crate::value::WORD;
+
+pub mod table;
+pub mod value;
 
 pub const MAX_CARD: usize = 65536;
 
-pub const MAX_CORES: u32 = 4;
-
-const MIN_MEMORY: u32 = 4096;
-
-const MAX_MEMORY: u32 = 16384;
-
-pub const MAX_STEPS: u32 = 16384;
-
-const MAX_DIGITS: usize = 16;
-
-const MAX_WORD: u32 = 0xffffffff;
-
 // The number of the first w line.
-const WORD_LINES: u32 = 7;
+const WORD_LINES: u32 = LINES as u32 + 1;
 
 // Why a card or a file of vectors is refused, document 01's 1, 9 and 10: the image's length, a line's form, a value's limits.
 pub enum Cause {
@@ -53,6 +53,7 @@ pub struct Job {
     pub cores: u32,
     pub memory: u32,
     pub entry: u32,
+    pub sr: u32,
     pub steps: u32,
     pub schedule: usize,
     pub digits: usize,
@@ -93,11 +94,11 @@ pub fn new<'a>(card: &'a [u8]) -> Reader<'a>
     Reader { card, reached }
 }
 
-// One header line further; a fault stays.
-pub fn next<'a>(r: Reader<'a>) -> Reader<'a>
-    ensures { λ s. ⌜ (s .card ≡ r .entry .card) × (standing (s .reached) ≡ andThen (standing (r .entry .reached)) (headerLine (now (r .entry .card)))) ⌝ }
+// Over the header, from the card's first line to the first w line; a fault stays.
+pub fn header<'a>(r: Reader<'a>) -> Reader<'a>
+    ensures { λ s. ⌜ (s .card ≡ r .entry .card) × (standing (s .reached) ≡ andThen (standing (r .entry .reached)) (headerAt (now (r .entry .card)))) ⌝ }
 {
-    let reached = line_at(r.card, r.reached);
+    let reached = header_at(r.card, r.reached);
     Reader {
         card: r.card,
         reached,
@@ -111,11 +112,11 @@ pub fn finish<'a>(r: Reader<'a>) -> Reading
     finish_at(r.card, r.reached)
 }
 
-// A whole card: the six lines of its header, and the rest.
+// A whole card.
 pub fn read_card(card: &[u8]) -> Reading
     ensures { λ r. ⌜ told r ≡ answered (now (card .entry)) (cardSays (now (card .entry))) ⌝ }
 {
-    finish(next(next(next(next(next(next(new(card))))))))
+    finish(header(new(card)))
 }
 
 // The first line of a card that is not too long.
@@ -125,16 +126,7 @@ fn start(card: &[u8]) -> Reached
     if MAX_CARD < card.len() {
         return Reached::Fault(Cause::Form, 0);
     }
-    let job = Job {
-        cores: 0,
-        memory: 0,
-        entry: 0,
-        steps: 0,
-        schedule: 0,
-        digits: 0,
-        words: 0,
-        image: 0,
-    };
+    let job = job_of([0; LINES], 0);
     Reached::Line(Progress {
         at: 0,
         line: 1,
@@ -142,94 +134,62 @@ fn start(card: &[u8]) -> Reached
     })
 }
 
-// The header's line at the place reached, by its number.
-fn line_at(card: &[u8], reached: Reached) -> Reached
-    ensures { λ r. ⌜ standing r ≡ andThen (standing reached) (headerLine (now (card .entry))) ⌝ }
+// The header, if its first line is reached.
+fn header_at(card: &[u8], reached: Reached) -> Reached
+    ensures { λ r. ⌜ standing r ≡ andThen (standing reached) (headerAt (now (card .entry))) ⌝ }
 {
     let Reached::Line(p) = reached else {
         return reached;
     };
-    let line = p.line;
-    match line {
-        1 => number_line(card, p, Item::Cores, b"cores=", CORES),
-        2 => number_line(card, p, Item::Memory, b"memory=", MEMORY),
-        3 => number_line(card, p, Item::Entry, b"entry=", ENTRY),
-        4 => number_line(card, p, Item::Steps, b"steps=", STEPS),
-        5 => schedule_line(card, p),
-        6 => {
-            let words = Format {
-                hex: false,
-                low: 0,
-                high: p.job.memory / 4,
-                multiple: 1,
-            };
-            number_line(card, p, Item::Words, b"words=", words)
-        }
-        _ => reached,
+    if p.line != 1 {
+        return reached;
     }
+    read_header(card, p.at)
 }
 
-// Which of a job's numbers a line gives.
-pub enum Item {
-    Cores,
-    Memory,
-    Entry,
-    Steps,
-    Words,
-}
-
-fn put(mut job: Job, item: Item, n: u32) -> Job
-    ensures { λ r. ⌜ r ≡ putOf item n job ⌝ }
+// The header's lines from a place on.
+fn read_header(card: &[u8], from: usize) -> Reached
+    ensures { λ r. ⌜ standing r ≡ headerFrom (now (card .entry)) from ⌝ }
 {
-    match item {
-        Item::Cores => job.cores = n,
-        Item::Memory => job.memory = n,
-        Item::Entry => job.entry = n,
-        Item::Steps => job.steps = n,
-        Item::Words => job.words = n,
-    }
-    job
-}
-
-// A line with a number of the job.
-fn number_line(card: &[u8], p: Progress, item: Item, key: &[u8], form: Format) -> Reached
-    requires { ⌜ (p .line ≤ headerLines) × (0 < form .multiple) ⌝ }
-    ensures { λ r. ⌜ standing r ≡ header (now (key .entry)) (numberText form) (putOf item) (now (card .entry)) p ⌝ }
-{
-    match number_at(card, p.at, key, form) {
-        Field::Value(n, next) => {
-            let job = put(p.job, item, n);
-            let line = p.line + 1;
-            Reached::Line(Progress {
-                at: next,
-                line,
-                job,
-            })
-        }
-        Field::Fault(cause) => Reached::Fault(cause, p.line),
-    }
-}
-
-fn schedule_line(card: &[u8], p: Progress) -> Reached
-    requires { ⌜ p .line ≤ headerLines ⌝ }
-    ensures { λ r. ⌜ standing r ≡ scheduleLine (now (card .entry)) p ⌝ }
-{
-    match text::find_entry(card, p.at, b"schedule=") {
-        Found::At(from, end) => {
-            let text = &card[from..end];
-            let mut job = p.job;
-            match check_schedule(text, job.cores) {
-                Check::Passed => {
-                    job.schedule = from;
-                    job.digits = end - from;
-                    let at = end + 1;
-                    let line = p.line + 1;
-                    Reached::Line(Progress { at, line, job })
-                }
-                Check::Failed(cause) => Reached::Fault(cause, p.line),
+    let mut values = [0u32; LINES];
+    let mut places = [0usize; LINES];
+    let mut at = from;
+    let mut i = 0;
+    while i < LINES {
+        match table::line_at(card, at, i, values[CORES], values[MEMORY]) {
+            Field::Value(v, next) => {
+                values[i] = v;
+                places[i] = at;
+                at = next;
+                i += 1;
+            }
+            Field::Fault(cause) => {
+                return Reached::Fault(cause, i as u32 + 1);
             }
         }
-        Found::Missing => Reached::Fault(Cause::Form, p.line),
+    }
+    let job = job_of(values, places[SCHEDULE] + SCHEDULE_KEY);
+    Reached::Line(Progress {
+        at,
+        line: WORD_LINES,
+        job,
+    })
+}
+
+// The job of a header's values, with the place of the schedule's digits.
+fn job_of(values: [u32; LINES], schedule: usize) -> Job
+    ensures { λ r. ⌜ r ≡ jobOf values schedule ⌝ }
+{
+    Job {
+        cores: values[CORES],
+        memory: values[MEMORY],
+        entry: values[ENTRY],
+        sr: values[SR],
+        steps: values[STEPS],
+        schedule,
+        digits: values[SCHEDULE] as usize,
+        words: values[WORDS],
+        image: 0,
     }
 }
 
@@ -280,142 +240,9 @@ fn word_lines(card: &[u8], job: Job) -> Reading
     Reading::Good(job)
 }
 
-// A line's value and the place of the next line.
-pub enum Field {
-    Value(u32, usize),
-    Fault(Cause),
-}
-
+// The word of the w line at a place.
 pub fn word_at(card: &[u8], at: usize) -> Field
     ensures { λ r. ⌜ (stepIn (now (card .entry)) r ≡ first (ascii "w=") word (lines (drop at (now (card .entry))))) × (Ahead (now (card .entry)) at r) ⌝ }
 {
-    number_at(card, at, b"w=", WORD)
-}
-
-// The form and the limits of a line's number.
-pub struct Format {
-    pub hex: bool,
-    pub low: u32,
-    pub high: u32,
-    pub multiple: u32,
-}
-
-const CORES: Format = Format {
-    hex: false,
-    low: 1,
-    high: MAX_CORES,
-    multiple: 1,
-};
-
-const MEMORY: Format = Format {
-    hex: false,
-    low: MIN_MEMORY,
-    high: MAX_MEMORY,
-    multiple: 4,
-};
-
-const ENTRY: Format = Format {
-    hex: true,
-    low: 0,
-    high: MAX_WORD,
-    multiple: 4,
-};
-
-const STEPS: Format = Format {
-    hex: false,
-    low: 0,
-    high: MAX_STEPS,
-    multiple: 1,
-};
-
-const WORD: Format = Format {
-    hex: true,
-    low: 0,
-    high: MAX_WORD,
-    multiple: 1,
-};
-
-// The number on the line at a place.
-pub fn number_at(card: &[u8], at: usize, key: &[u8], form: Format) -> Field
-    requires { ⌜ 0 < form .multiple ⌝ }
-    ensures { λ r. ⌜ (stepIn (now (card .entry)) r ≡ first (now (key .entry)) (numberText form) (lines (drop at (now (card .entry))))) × (Ahead (now (card .entry)) at r) ⌝ }
-{
-    match text::find_entry(card, at, key) {
-        Found::At(from, end) => {
-            let text = &card[from..end];
-            limited(parsed(text, form.hex), form, end + 1)
-        }
-        Found::Missing => Field::Fault(Cause::Form),
-    }
-}
-
-// The place of the next line goes with the value.
-fn limited(v: Parsed, form: Format, next: usize) -> Field
-    requires { ⌜ 0 < form .multiple ⌝ }
-    ensures { λ r. ⌜ (fieldIn r ≡ limitedOf (form .low) (form .high) (form .multiple) v) × (Next next r) ⌝ }
-{
-    match v {
-        Parsed::Number(n) => {
-            if n < form.low {
-                return Field::Fault(Cause::Limit);
-            }
-            if form.high < n {
-                return Field::Fault(Cause::Limit);
-            }
-            if n % form.multiple == 0 {
-                return Field::Value(n, next);
-            }
-            Field::Fault(Cause::Limit)
-        }
-        Parsed::Nothing => Field::Fault(Cause::Form),
-    }
-}
-
-fn parsed(text: &[u8], hex: bool) -> Parsed
-    ensures { λ r. ⌜ r ≡ parsedBy hex (now (text .entry)) ⌝ }
-{
-    if hex {
-        text::hexadecimal(text)
-    } else {
-        text::decimal(text)
-    }
-}
-
-// What a schedule's text is.
-pub enum Check {
-    Passed,
-    Failed(Cause),
-}
-
-fn check_schedule(text: &[u8], cores: u32) -> Check
-    ensures { λ r. ⌜ scheduleIn (now (text .entry)) r ≡ scheduleOf cores (now (text .entry)) ⌝ }
-{
-    if text.len() < 1 {
-        return Check::Failed(Cause::Form);
-    }
-    if MAX_DIGITS < text.len() {
-        return Check::Failed(Cause::Form);
-    }
-    if digits_below(text, 10) {
-        if digits_below(text, cores) {
-            return Check::Passed;
-        }
-        return Check::Failed(Cause::Limit);
-    }
-    Check::Failed(Cause::Form)
-}
-
-// Whether every character is a digit below n.
-fn digits_below(text: &[u8], n: u32) -> bool
-    ensures { λ r. ⌜ r ≡ digitsBelow n (now (text .entry)) ⌝ }
-{
-    let mut i = 0;
-    while i < text.len() {
-        let d = text::digit(text[i]) as u32;
-        if n <= d {
-            return false;
-        }
-        i += 1;
-    }
-    true
+    value::value_at(card, at, b"w=", WORD)
 }

@@ -23,9 +23,9 @@ use Rattle.card.specs.Answer.{wordsFrom}
 use Rattle.card.proofs.Laws.{every-getD}
 use Rattle.card.specs.Inner.{stepIn}
 use Rattle.card.specs.declared.Cause.{Cause}
-use Rattle.card.specs.declared.Field.{Field}
-use Rattle.card.specs.declared.Field.the-variants.{Value, Fault}
-use Rattle.job.specs.Job.{reading, filled, memoryOf, imageAfter, imageLength, entries, resetSR, resetPICMR, resetState, resetStates}
+use Rattle.card.specs.declared.value.Field.{Field}
+use Rattle.card.specs.declared.value.Field.the-variants.{Value, Fault}
+use Rattle.job.specs.Job.{reading, filled, memoryOf, imageAfter, imageLength, entries, resetESR, resetPICMR, resetState, resetStates}
 
 -- ---- the words of memory
 
@@ -145,45 +145,45 @@ digit-at card from n i h k =
 
 -- ---- the states
 
-pub length-states : (entry n : ℕ) → length (resetStates entry n) ≡ n * stateWords
+pub length-states : (entry sr n : ℕ) → length (resetStates entry sr n) ≡ n * stateWords
 unfolding resetStates
-length-states entry zero = refl
-length-states entry (suc n) = let e = length-states entry n in simp (length-append, e) (omega arith)
+length-states entry sr zero = refl
+length-states entry sr (suc n) = let e = length-states entry sr n in simp (length-append, e) (omega arith)
 
 -- a word of a reset state that is not set is 0
-pub reset-zero : (entry place : ℕ) → place < stateWords → (place ≡ pcAt → ⊥) → (place ≡ srAt → ⊥) → (place ≡ esrAt → ⊥) → (place ≡ modeAt → ⊥)
-    → (place ≡ picmrAt → ⊥) → 0 ≡ getD (resetState entry) place 0
-reset-zero entry place h pc sr esr mode picmr =
+pub reset-zero : (entry sr place : ℕ) → place < stateWords → (place ≡ pcAt → ⊥) → (place ≡ srAt → ⊥) → (place ≡ esrAt → ⊥) → (place ≡ modeAt → ⊥)
+    → (place ≡ picmrAt → ⊥) → 0 ≡ getD (resetState entry sr) place 0
+reset-zero entry sr place h not-pc not-sr not-esr not-mode not-picmr =
     let z : List ℕ = replicate stateWords 0 in
     let a : List ℕ = set z pcAt entry in
-    let b : List ℕ = set a srAt resetSR in
-    let d : List ℕ = set b esrAt resetSR in
+    let b : List ℕ = set a srAt sr in
+    let d : List ℕ = set b esrAt resetESR in
     sym
-    (getD-set-other (set d modeAt running) picmrAt place resetPICMR 0 picmr
-    ∙ getD-set-other d modeAt place running 0 mode
-    ∙ getD-set-other b esrAt place resetSR 0 esr
-    ∙ getD-set-other a srAt place resetSR 0 sr
-    ∙ getD-set-other z pcAt place entry 0 pc
+    (getD-set-other (set d modeAt running) picmrAt place resetPICMR 0 not-picmr
+    ∙ getD-set-other d modeAt place running 0 not-mode
+    ∙ getD-set-other b esrAt place resetESR 0 not-esr
+    ∙ getD-set-other a srAt place sr 0 not-sr
+    ∙ getD-set-other z pcAt place entry 0 not-pc
     ∙ getD-replicate stateWords place 0 0 h)
 
 -- each core's state is the reset state
-pub word-reset : (entry n i : ℕ) → i < n * stateWords → getD (resetStates entry n) i 0 ≡ getD (resetState entry) (i % stateWords) 0
+pub word-reset : (entry sr n i : ℕ) → i < n * stateWords → getD (resetStates entry sr n) i 0 ≡ getD (resetState entry sr) (i % stateWords) 0
 unfolding resetStates
-word-reset entry zero i h = absurd (omega arith)
-word-reset entry (suc n) i h = reset-or (ltb i (length (resetStates entry n))) refl (word-reset entry n i)
+word-reset entry sr zero i h = absurd (omega arith)
+word-reset entry sr (suc n) i h = reset-or (ltb i (length (resetStates entry sr n))) refl (word-reset entry sr n i)
   where
-    reset-or : (b : Bool) → ltb i (length (resetStates entry n)) ≡ b
-        → (i < n * stateWords → getD (resetStates entry n) i 0 ≡ getD (resetState entry) (i % stateWords) 0)
-        → getD (resetStates entry n ++ resetState entry) i 0 ≡ getD (resetState entry) (i % stateWords) 0
+    reset-or : (b : Bool) → ltb i (length (resetStates entry sr n)) ≡ b
+        → (i < n * stateWords → getD (resetStates entry sr n) i 0 ≡ getD (resetState entry sr) (i % stateWords) 0)
+        → getD (resetStates entry sr n ++ resetState entry sr) i 0 ≡ getD (resetState entry sr) (i % stateWords) 0
     reset-or true e ih =
-        let k : i < length (resetStates entry n) = ltb-true _ _ e in
-        let l : length (resetStates entry n) ≡ n * stateWords = length-states entry n in
-        List·getD-append (resetStates entry n) (resetState entry) 0 i k ∙ ih (omega arith)
+        let k : i < length (resetStates entry sr n) = ltb-true _ _ e in
+        let l : length (resetStates entry sr n) ≡ n * stateWords = length-states entry sr n in
+        List·getD-append (resetStates entry sr n) (resetState entry sr) 0 i k ∙ ih (omega arith)
     reset-or false e ih =
-        let k : length (resetStates entry n) ≤ i = ltb-false _ _ e in
-        let l : length (resetStates entry n) ≡ n * stateWords = length-states entry n in
-        let m : i ≡ length (resetStates entry n) + i % stateWords = omega arith in
-        ap (λ j. getD (resetStates entry n ++ resetState entry) j 0) m ∙ getD-append-add (resetStates entry n) (resetState entry) (i % stateWords) 0
+        let k : length (resetStates entry sr n) ≤ i = ltb-false _ _ e in
+        let l : length (resetStates entry sr n) ≡ n * stateWords = length-states entry sr n in
+        let m : i ≡ length (resetStates entry sr n) + i % stateWords = omega arith in
+        ap (λ j. getD (resetStates entry sr n ++ resetState entry sr) j 0) m ∙ getD-append-add (resetStates entry sr n) (resetState entry sr) (i % stateWords) 0
 
 -- one word more
 pub reset-step : (l s : List ℕ) (i : ℕ) → i < length s → set (sets l 0 (take i s)) i (getD s i 0) ≡ sets l 0 (take (i + 1) s)

@@ -36,18 +36,18 @@ unfoldable pub entries : List ℕ → ℕ → List ℕ
 entries schedule zero = []
 entries schedule (suc n) = entries schedule n ++ (getD schedule (n % length schedule) 0 ∷ [])
 
-abbrev pub resetSR : ℕ
-resetSR = 0x8001
+abbrev pub resetESR : ℕ
+resetESR = 0x8001
 
 abbrev pub resetPICMR : ℕ
 resetPICMR = 3
 
--- "Reset: PC the entry, SR and ESR 00008001, mode 3, the rest 0." Document 02, note 4: "PICMR 3 at reset"
-abbrev pub resetState : ℕ → List ℕ
-resetState entry =
-    set (set (set (set (set (replicate stateWords 0) pcAt entry) srAt resetSR) esrAt resetSR) modeAt running) picmrAt resetPICMR
+-- "Reset: PC the entry, .. ESR 00008001, mode 3, the rest 0." Document 02, note 4: "PICMR 3 at reset"; note 7: the line sr "sets SR of every core"
+abbrev pub resetState : ℕ → ℕ → List ℕ
+resetState entry sr =
+    set (set (set (set (set (replicate stateWords 0) pcAt entry) srAt sr) esrAt resetESR) modeAt running) picmrAt resetPICMR
 
 -- the states of n cores, one after the other
-unfoldable pub resetStates : ℕ → ℕ → List ℕ
-resetStates entry zero = []
-resetStates entry (suc n) = resetStates entry n ++ resetState entry
+unfoldable pub resetStates : ℕ → ℕ → ℕ → List ℕ
+resetStates entry sr zero = []
+resetStates entry sr (suc n) = resetStates entry sr n ++ resetState entry sr

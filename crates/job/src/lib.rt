@@ -9,14 +9,14 @@ ghost use Rattle.job.specs.Job.{imageLength, filled, memoryOf, entries, 
 ghost use Rattle.effect.specs.State.{stateWords};
 ghost use Rattle.job.specs.Answer.{ReadJob};
 use card::Cause;
-use card::Field;
 use card::Job;
 use card::Reading;
+use card::value::Field;
 use effect::state;
 
 pub const IMAGE: usize = 16384;
 
-const RESET_SR: u32 = 0x8001;
+const RESET_ESR: u32 = 0x8001;
 
 const RESET_PICMR: u32 = 3;
 
@@ -95,28 +95,28 @@ pub fn schedule(card: &[u8], job: Job, out: &mut [u8])
     }
 }
 
-// The first states of n cores that start at an entry.
-pub fn reset(states: &mut [u32], n: u32, entry: u32)
+// The first states of n cores that start at an entry with an SR.
+pub fn reset(states: &mut [u32], n: u32, entry: u32, sr: u32)
     requires { ⌜ n * stateWords ≤ length (now states) ⌝ }
-    ensures { λ _. ⌜ now (states .exit) ≡ sets (now (states .entry)) 0 (resetStates entry n) ⌝ }
+    ensures { λ _. ⌜ now (states .exit) ≡ sets (now (states .entry)) 0 (resetStates entry sr n) ⌝ }
 {
     let words = n as usize * state::STATE_WORDS;
     let mut i: usize = 0;
     while i < words {
-        states[i] = reset_word(i % state::STATE_WORDS, entry);
+        states[i] = reset_word(i % state::STATE_WORDS, entry, sr);
         i += 1;
     }
 }
 
 // A word of a core's first state, by its place.
-fn reset_word(place: usize, entry: u32) -> u32
+fn reset_word(place: usize, entry: u32, sr: u32) -> u32
     requires { ⌜ place < stateWords ⌝ }
-    ensures { λ r. ⌜ r ≡ getD (resetState entry) place 0 ⌝ }
+    ensures { λ r. ⌜ r ≡ getD (resetState entry sr) place 0 ⌝ }
 {
     match place {
         state::PC => entry,
-        state::SR => RESET_SR,
-        state::ESR => RESET_SR,
+        state::SR => sr,
+        state::ESR => RESET_ESR,
         state::MODE => state::RUNNING,
         state::PICMR => RESET_PICMR,
         _ => 0,

@@ -21,7 +21,7 @@ use Rattle.refusal.specs.Refusal.{everyFrom, memoryFits, statesFit, statesObey,
 use Rattle.refusal.proofs.Passes.{none-refused}
 use Rattle.card.specs.Card.{Job, every}
 use Rattle.card.specs.Answer.{Sound}
-use Rattle.job.specs.Job.{memoryOf, resetSR, resetState, resetStates}
+use Rattle.job.specs.Job.{memoryOf, resetESR, resetState, resetStates}
 use Rattle.job.proofs.Laws.{length-memory, length-states, word-reset as reset-word, length-entries, every-entry}
 use Rattle.play.specs.Output.{statesOf, scheduleOf, levelsOf, emptyCache, lentBy}
 
@@ -31,46 +31,46 @@ equal m n e = T-of (eqb m n) (eq-eqb m n e)
 -- ---- states
 
 -- each core's state is the reset state
-word-reset : (entry n core k : ℕ) → core < n → k < stateWords → wordAt (resetStates entry n) core k ≡ getD (resetState entry) k 0
-word-reset entry n core k h g =
+word-reset : (entry sr n core k : ℕ) → core < n → k < stateWords → wordAt (resetStates entry sr n) core k ≡ getD (resetState entry sr) k 0
+word-reset entry sr n core k h g =
     let m : (core * stateWords + k) % stateWords ≡ k = omega arith in
-    reset-word entry n (core * stateWords + k) (omega arith) ∙ ap (λ (i : ℕ). getD (resetState entry) i 0) m
+    reset-word entry sr n (core * stateWords + k) (omega arith) ∙ ap (λ (i : ℕ). getD (resetState entry sr) i 0) m
 
-allowed-reset : allowed resetSR ≡ resetSR
+allowed-reset : allowed resetESR ≡ resetESR
 unfolding allowed only
 allowed-reset = refl
 
-module _ (entry n : ℕ) (h : entry % 4 ≡ 0) where
-  reset-accepted : (board : Board) (core : ℕ) → core < n → T (accepted board (resetStates entry n) core)
-  reset-accepted board core g =
-      let w0 : wordAt (resetStates entry n) core 0 ≡ 0 = word-reset entry n core 0 g (lit< tt) in
-      let pc : wordAt (resetStates entry n) core pcAt ≡ entry = word-reset entry n core pcAt g (lit< tt) in
-      let delay : wordAt (resetStates entry n) core delayAt ≡ 0 = word-reset entry n core delayAt g (lit< tt) in
-      let target : wordAt (resetStates entry n) core targetAt ≡ 0 = word-reset entry n core targetAt g (lit< tt) in
-      let sr : wordAt (resetStates entry n) core srAt ≡ resetSR = word-reset entry n core srAt g (lit< tt) in
-      let epcr : wordAt (resetStates entry n) core epcrAt ≡ 0 = word-reset entry n core epcrAt g (lit< tt) in
-      let esr : wordAt (resetStates entry n) core esrAt ≡ resetSR = word-reset entry n core esrAt g (lit< tt) in
-      let link : wordAt (resetStates entry n) core linkAt ≡ 0 = word-reset entry n core linkAt g (lit< tt) in
-      let address : wordAt (resetStates entry n) core linkAddressAt ≡ 0 = word-reset entry n core linkAddressAt g (lit< tt) in
-      let mode : wordAt (resetStates entry n) core modeAt ≡ 3 = word-reset entry n core modeAt g (lit< tt) in
-      let picmr : wordAt (resetStates entry n) core picmrAt ≡ 3 = word-reset entry n core picmrAt g (lit< tt) in
-      means-accepted board (resetStates entry n) core
+module _ (entry sr n : ℕ) (h : entry % 4 ≡ 0) (g : allowed sr ≡ sr) where
+  reset-accepted : (board : Board) (core : ℕ) → core < n → T (accepted board (resetStates entry sr n) core)
+  reset-accepted board core b =
+      let w0 : wordAt (resetStates entry sr n) core 0 ≡ 0 = word-reset entry sr n core 0 b (lit< tt) in
+      let pc : wordAt (resetStates entry sr n) core pcAt ≡ entry = word-reset entry sr n core pcAt b (lit< tt) in
+      let delay : wordAt (resetStates entry sr n) core delayAt ≡ 0 = word-reset entry sr n core delayAt b (lit< tt) in
+      let target : wordAt (resetStates entry sr n) core targetAt ≡ 0 = word-reset entry sr n core targetAt b (lit< tt) in
+      let status : wordAt (resetStates entry sr n) core srAt ≡ sr = word-reset entry sr n core srAt b (lit< tt) in
+      let epcr : wordAt (resetStates entry sr n) core epcrAt ≡ 0 = word-reset entry sr n core epcrAt b (lit< tt) in
+      let esr : wordAt (resetStates entry sr n) core esrAt ≡ resetESR = word-reset entry sr n core esrAt b (lit< tt) in
+      let link : wordAt (resetStates entry sr n) core linkAt ≡ 0 = word-reset entry sr n core linkAt b (lit< tt) in
+      let address : wordAt (resetStates entry sr n) core linkAddressAt ≡ 0 = word-reset entry sr n core linkAddressAt b (lit< tt) in
+      let mode : wordAt (resetStates entry sr n) core modeAt ≡ 3 = word-reset entry sr n core modeAt b (lit< tt) in
+      let picmr : wordAt (resetStates entry sr n) core picmrAt ≡ 3 = word-reset entry sr n core picmrAt b (lit< tt) in
+      means-accepted board (resetStates entry sr n) core
       (record {
         zero-register = w0;
         flow-lawful = record { delay-bit = omega arith; pc-multiple = ap (λ (x : ℕ). x % 4) pc ∙ h; target-multiple = ap (λ (x : ℕ). x % 4) target; no-target = λ _. target };
         link-lawful = record { held-bit = omega arith; address-multiple = ap (λ (x : ℕ). x % 4) address; no-address = λ _. address };
-        sr-lawful = subst (λ (x : ℕ). allowed x ≡ x) (sym sr) allowed-reset;
+        sr-lawful = subst (λ (x : ℕ). allowed x ≡ x) (sym status) g;
         epcr-lawful = ap (λ (x : ℕ). x % 4) epcr;
         esr-lawful = subst (λ (x : ℕ). allowed x ≡ x) (sym esr) allowed-reset;
         mode-lawful = subst Mode (sym mode) is-running;
         mask-lawful = ap (λ (x : ℕ). x % 4) picmr;
       })
 
-  reset-obeys : (board : Board) → T (statesObey board (resetStates entry n))
+  reset-obeys : (board : Board) → T (statesObey board (resetStates entry sr n))
   unfolding statesObey
   reset-obeys board =
-      let l : length (resetStates entry n) ≡ n * stateWords = length-states entry n in
-      of-below (accepted board (resetStates entry n)) (coreCount (resetStates entry n)) (λ core g. reset-accepted board core (omega arith))
+      let l : length (resetStates entry sr n) ≡ n * stateWords = length-states entry sr n in
+      of-below (accepted board (resetStates entry sr n)) (coreCount (resetStates entry sr n)) (λ core b. reset-accepted board core (omega arith))
 
 -- ---- schedule and cache
 
@@ -108,7 +108,7 @@ module _ (vectors : List ℕ) (f : T (vectorsFit vectors)) (j : Job) (h : Sound 
   unfolding scheduleFits namesCores levelsFit limitFits cacheFits entriesRight
   job-accepted =
       let m : length (memoryOf j) ≡ j .memory = length-memory j in
-      let s : length (statesOf j) ≡ j .cores * stateWords = length-states (j .entry) (j .cores) in
+      let s : length (statesOf j) ≡ j .cores * stateWords = length-states (j .entry) (j .sr) (j .cores) in
       let n : length (scheduleOf j) ≡ j .steps = length-entries (j .schedule) (j .steps) in
       let c : length (statesOf j) / stateWords ≡ j .cores = omega arith in
       let e : length (emptyCache j) ≡ length (memoryOf j) / 4 = length-replicate (j .memory / 4) 0 ∙ ap (λ (k : ℕ). k / 4) (sym m) in
@@ -116,7 +116,7 @@ module _ (vectors : List ℕ) (f : T (vectorsFit vectors)) (j : Job) (h : Sound 
       (record {
         memory-fits = rw m (memory-fits (j .memory) (h .memory-low) (h .memory-high) (h .memory-multiple));
         states-fit = states-fit (length (statesOf j)) (omega arith) (omega (arith, h .cores-low)) (omega (arith, h .cores-high));
-        states-obey = reset-obeys (j .entry) (j .cores) (h .entry-multiple) (boardOf (lentBy vectors j));
+        states-obey = reset-obeys (j .entry) (j .sr) (j .cores) (h .entry-multiple) (h .sr-allowed) (boardOf (lentBy vectors j));
         schedule-fits = below (length (scheduleOf j)) maxSchedule (omega (arith, h .steps-high));
         names-cores =
             rw c (every-from (j .cores) (scheduleOf j) 0 (every-entry (λ d. ltb d (j .cores)) (j .schedule) (j .steps) (omega (arith, h .digits-low)) (h .cores-named)));

@@ -27,14 +27,14 @@ abbrev pub cacheWords : ℕ
 cacheWords = imageLength / 4
 
 module _ (vectors : List ℕ) (f : T (vectorsFit vectors)) (card : List ℕ) (j : Job) (image s₀ s t₀ t : List ℕ) (r : Ready card j image)
-    (hs : j .cores * stateWords ≤ length s₀) (es : s ≡ sets s₀ 0 (resetStates (j .entry) (j .cores)))
+    (hs : j .cores * stateWords ≤ length s₀) (es : s ≡ sets s₀ 0 (resetStates (j .entry) (j .sr) (j .cores)))
     (ht : j .steps ≤ length t₀) (et : t ≡ sets t₀ 0 (entries (scheduleAt card j) (j .steps))) where
   memory-part : take (j .memory) image ≡ memoryOf (jobAt card j)
   memory-part = r .laid-out
 
   states-part : take (j .cores * stateWords) s ≡ statesOf (jobAt card j)
   states-part =
-      let n = length-states (j .entry) (j .cores) in
+      let n = length-states (j .entry) (j .sr) (j .cores) in
       ap (take (j .cores * stateWords)) es ∙ take-sets s₀ (statesOf (jobAt card j)) (omega arith) (j .cores * stateWords) n
 
   schedule-part : take (j .steps) t ≡ scheduleOf (jobAt card j)

@@ -3,3 +3,4 @@ pub mod Parts
 pub mod Accepted
 pub mod Printing
 pub mod Lent
+pub mod Earlier

@@ -42,7 +42,7 @@ use Rattle.vectors_file.specs.declared.Reading as vectors
 use Rattle.vectors_file.specs.declared.Outcome.{Outcome}
 use Rattle.vectors_file.specs.declared.Outcome.the-variants as outcome
 use Rattle.vectors_file.proofs.Laws.{good-fits}
-use Rattle.play.specs.Output.{runText, jobText, verdictText, cardText, output}
+use Rattle.play.specs.Output.{runText, jobText, verdictText, cardText, outputOf, output}
 use Rattle.play.specs.Answer.{outputRoom, Among, Printed}
 use Rattle.play.specs.Inner.{Ready}
 
@@ -124,7 +124,7 @@ module _ (file : File) (r : vectors.Reading) (h : toldVectors r ≡ answeredVect
 
   pub bad-list-output : (cause : Cause) (line : ℕ) → r .outcome ≡ outcome.Bad cause line → (card : List ℕ) → refusalText (refusal cause) line ≡ output file card
   unfolding output
-  bad-list-output cause line e card = ap (verdictText (cardText card)) (sym (file-says e))
+  bad-list-output cause line e card = ap (λ v. outputOf v (cardSays card)) (sym (file-says e))
 
   module _ (e : r .outcome ≡ outcome.Good) where
     list-says : vectorsSay file ≡ good (r .list)
@@ -134,5 +134,5 @@ module _ (file : File) (r : vectors.Reading) (h : toldVectors r ≡ answeredVect
     list-fits = good-fits file (r .list) list-says
 
     pub list-output : (card : List ℕ) → cardText card (r .list) ≡ output file card
-    unfolding output
-    list-output card = ap (verdictText (cardText card)) (sym list-says)
+    unfolding output cardText
+    list-output card = ap (λ v. outputOf v (cardSays card)) (sym list-says)

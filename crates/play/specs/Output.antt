@@ -12,9 +12,9 @@ use Rattle.vectors_file.specs.File.{File, vectorsSay}
 use Rattle.job.specs.Job.{memoryOf, entries, resetStates}
 use Rattle.report.specs.Result.{resultText, refusalText}
 
--- all cores start at the entry
+-- all cores start at the entry, with the card's SR
 abbrev pub statesOf : Job → List ℕ
-statesOf j = resetStates (j .entry) (j .cores)
+statesOf j = resetStates (j .entry) (j .sr) (j .cores)
 
 abbrev pub scheduleOf : Job → List ℕ
 scheduleOf j = entries (j .schedule) (j .steps)
@@ -50,6 +50,10 @@ verdictText text (refused number line) = refusalText number line
 unfoldable pub cardText : List ℕ → List ℕ → List ℕ
 cardText card vectors = verdictText (jobText vectors) (cardSays card)
 
--- what the runner prints for a file of vectors and a card's bytes. Document 02, note 6: "It is read before the card, ..; faults are 9 and 10 and print alike."
+-- what is printed of what a file of vectors and a card say. Document 02, note 6: "It is read before the card, ..; faults are 9 and 10 and print alike."
+abbrev pub outputOf : Verdict (List ℕ) → Verdict Job → List ℕ
+outputOf vectors job = verdictText (λ list. verdictText (jobText list) job) vectors
+
+-- what the runner prints for a file of vectors and a card's bytes
 unfoldable pub output : File → List ℕ → List ℕ
-output file card = verdictText (cardText card) (vectorsSay file)
+output file card = outputOf (vectorsSay file) (cardSays card)

@@ -21,7 +21,7 @@ use report::Written;
 use vectors_file::Outcome;
 use vectors_file::Source;
 
-const CORES: usize = card::MAX_CORES as usize;
+const CORES: usize = card::table::MAX_CORES as usize;
 
 // The bytes that a card's output may take: the longest is that of all cores.
 pub const ROOM: usize = report::ENDS_ROOM + CORES * report::CORE_ROOM;
@@ -31,7 +31,7 @@ const MEMORY_WORDS: usize = job::IMAGE / 4;
 
 const STATES: usize = CORES * state::STATE_WORDS;
 
-const STEPS: usize = card::MAX_STEPS as usize;
+const STEPS: usize = card::table::MAX_STEPS as usize;
 
 // No part of a card's memory is read-only.
 const NO_LIMIT: u32 = 0;
@@ -76,7 +76,7 @@ fn print_job(vectors: &[u32], card: &[u8], job: Job, image: &mut [u8], out: &mut
     let mut schedule = [0u8; STEPS];
     let levels = [0u32; STEPS];
     let mut cache = [0u64; MEMORY_WORDS];
-    job::reset(&mut states, job.cores, job.entry);
+    job::reset(&mut states, job.cores, job.entry, job.sr);
     job::schedule(card, job, &mut schedule);
     let memory = job.memory as usize;
     let words = job.cores as usize * state::STATE_WORDS;

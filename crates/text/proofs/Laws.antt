@@ -74,7 +74,7 @@ and-right-true : (a : Bool) {b : Bool} → (a && b) ≡ true → b ≡ true
 and-right-true true e = e
 and-right-true false e = absurd (let z : _≡_ {A = ℕ} 0 1 = cc in omega arith)
 
-begins-length : (k l : List ℕ) → begins k l ≡ true → length k ≤ length l
+pub begins-length : (k l : List ℕ) → begins k l ≡ true → length k ≤ length l
 begins-length [] l e = omega arith
 begins-length (x ∷ k) [] e = absurd (let z : _≡_ {A = ℕ} 0 1 = cc in omega arith)
 begins-length (x ∷ k) (b ∷ l) e = let h = begins-length k l (and-right-true (eqb x b) e) in omega arith

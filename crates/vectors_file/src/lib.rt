@@ -11,8 +11,8 @@ ghost use Rattle.isa.specs.Vectors.{vectorCount};
 ghost use Rattle.vectors_file.specs.File.{keys, address, distinct as distinctOf, content, vectorsSay};
 ghost use Rattle.vectors_file.specs.Answer.{told, answered, fileOf};
 use card::Cause;
-use card::Field;
-use card::Format;
+use card::value::Field;
+use card::value::Rule;
 use isa::vectors::COUNT;
 
 // How the file was found: its bytes were read, there is none, or it is there and cannot be read.
@@ -33,12 +33,7 @@ pub struct Reading {
     pub list: [u32; COUNT],
 }
 
-const ADDRESS: Format = Format {
-    hex: true,
-    low: 0,
-    high: vector_list::END - 1,
-    multiple: 4,
-};
+const ADDRESS: Rule = Rule::Hexadecimal(0, vector_list::END - 1, 4);
 
 fn good(list: [u32; COUNT]) -> Reading
     ensures { λ r. ⌜ told r ≡ answered (goodOf list) ⌝ }
@@ -110,13 +105,13 @@ fn address_at(file: &[u8], at: usize, i: usize) -> Field
     ensures { λ r. ⌜ (stepIn (now (file .entry)) r ≡ first (ascii (getD keys i "")) address (lines (drop at (now (file .entry))))) × (Ahead (now (file .entry)) at r) ⌝ }
 {
     match i {
-        0 => card::number_at(file, at, b"bus=", ADDRESS),
-        1 => card::number_at(file, at, b"align=", ADDRESS),
-        2 => card::number_at(file, at, b"illegal=", ADDRESS),
-        3 => card::number_at(file, at, b"range=", ADDRESS),
-        4 => card::number_at(file, at, b"syscall=", ADDRESS),
-        5 => card::number_at(file, at, b"trap=", ADDRESS),
-        _ => card::number_at(file, at, b"interrupt=", ADDRESS),
+        0 => card::value::value_at(file, at, b"bus=", ADDRESS),
+        1 => card::value::value_at(file, at, b"align=", ADDRESS),
+        2 => card::value::value_at(file, at, b"illegal=", ADDRESS),
+        3 => card::value::value_at(file, at, b"range=", ADDRESS),
+        4 => card::value::value_at(file, at, b"syscall=", ADDRESS),
+        5 => card::value::value_at(file, at, b"trap=", ADDRESS),
+        _ => card::value::value_at(file, at, b"interrupt=", ADDRESS),
     }
 }
 

@@ -11,10 +11,10 @@ use Rattle.job.proofs.reset.Statement.{statement}
 use Rattle.job.proofs.reset.Tie as tie
 
 abbrev Inv-loop : tie.InvT-loop
-Inv-loop states₀ n entry words i₀ states i = (states ≡ sets states₀ 0 (take i (resetStates entry n))) × (i ≤ words) × (length states ≡ length states₀)
+Inv-loop states₀ n entry sr words i₀ states i = (states ≡ sets states₀ 0 (take i (resetStates entry sr n))) × (i ≤ words) × (length states ≡ length states₀)
 
 abbrev μ-loop : tie.MeasureT-loop
-μ-loop states₀ n entry words i₀ states i = words - i
+μ-loop states₀ n entry sr words i₀ states i = words - i
 
 mul-words : tie.Need-mul-words Inv-loop μ-loop
 mul-words c = search needs
@@ -41,9 +41,9 @@ loop-again : tie.Need-loop-again Inv-loop μ-loop
 loop-again c =
     let l = c .before .before .loop in
     let a = c .before .before .before .before .args in
-    let s = resetStates (a .entry) (a .n) in
-    let n : length s ≡ a .n * stateWords = length-states (a .entry) (a .n) in
-    let e = c .reset-word .ensures ∙ sym (word-reset (a .entry) (a .n) (l .i) (omega arith)) in (
+    let s = resetStates (a .entry) (a .sr) (a .n) in
+    let n : length s ≡ a .n * stateWords = length-states (a .entry) (a .sr) (a .n) in
+    let e = c .reset-word .ensures ∙ sym (word-reset (a .entry) (a .sr) (a .n) (l .i) (omega arith)) in (
       ap (λ k. set k (l .i) (c .reset-word .result)) (l .inv .0)
           ∙ ap (set (sets (a .states .now) 0 (take (l .i) s)) (l .i)) e
           ∙ reset-step (a .states .now) s (l .i) (omega arith),
@@ -58,8 +58,8 @@ returns : tie.Need-returns Inv-loop μ-loop
 returns c =
     let l = c .before .loop in
     let a = c .before .before .before .args in
-    let n : length (resetStates (a .entry) (a .n)) ≡ a .n * stateWords = length-states (a .entry) (a .n) in
-    l .inv .0 ∙ ap (sets (a .states .now) 0) (take-all (l .i) (resetStates (a .entry) (a .n)) (omega arith))
+    let n : length (resetStates (a .entry) (a .sr) (a .n)) ≡ a .n * stateWords = length-states (a .entry) (a .sr) (a .n) in
+    l .inv .0 ∙ ap (sets (a .states .now) 0) (take-all (l .i) (resetStates (a .entry) (a .sr) (a .n)) (omega arith))
 
 pub reset-spec : {M : Type 1} → statement M
 reset-spec =

@@ -22,7 +22,7 @@ returns-6 : tie.Need-returns-6
 returns-6 c =
     let r = c .match .rest in
     let a = c .before .args in
-    reset-zero (a .entry) (a .place) (c .before .pre) (r .0 .0 .0 .0 .1) (r .0 .0 .0 .1) (r .0 .0 .1) (r .0 .1) (r .1)
+    reset-zero (a .entry) (a .sr) (a .place) (c .before .pre) (r .0 .0 .0 .0 .1) (r .0 .0 .0 .1) (r .0 .0 .1) (r .0 .1) (r .1)
 
 pub reset-word-spec : {M : Type 1} → statement M
 reset-word-spec = tie.close (tie.spec returns returns-2 returns-3 returns-4 returns-5 returns-6)
