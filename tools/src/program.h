@@ -1,0 +1,29 @@
+/* A program's bytes, from an ELF file or a flat binary. */
+#ifndef PROGRAM_H
+#define PROGRAM_H
+
+#include <stddef.h>
+
+#include "job.h"
+
+struct file {
+    const char *name;
+    uint8_t *bytes;
+    size_t length;
+};
+
+/* The whole file. */
+struct file read_file(const char *name);
+
+bool is_elf(const struct file *file);
+
+/* A word as memory holds it, high byte first. */
+uint32_t word_at(const uint8_t *bytes);
+
+/* memory_bytes zeros. */
+uint8_t *new_memory(uint32_t memory_bytes);
+
+/* Puts the program into the job's new memory, and its entry into the job, if the options name none. */
+void load_program(struct options *options, const struct file *file);
+
+#endif
