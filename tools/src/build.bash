@@ -37,7 +37,9 @@ build_archive() {
         flock 9
         older "$archive" crates crates.txt || exit 0
         echo "${0##*/}: proving and building the engine; from nothing that takes minutes" >&2
-        rt staticlib host > target/archive.log 2>&1 < /dev/null || { tail -n 20 target/archive.log >&2; stop "the engine could not be built"; }
-        touch "$archive"
+        # The time before, so that an edit made meanwhile is seen the next time.
+        touch target/archive.start
+        rt staticlib host 2>&1 < /dev/null | tee target/archive.log | { grep --line-buffered '^rt: ' || :; } >&2 || { tail -n 20 target/archive.log >&2; stop "the engine could not be built"; }
+        touch -r target/archive.start "$archive"
     ) 9> "$top/target/run.lock"
 }

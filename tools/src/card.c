@@ -11,18 +11,19 @@ const char *const tool = "card";
 
 static struct options read_arguments(char **arguments)
 {
-    struct options options = usual_options((struct limits){.max_memory = CARD_MAX_MEMORY, .max_steps = CARD_MAX_STEPS, .usual_steps = CARD_MAX_STEPS});
+    struct options options = usual_options((struct limits){
+        .max_memory = CARD_MAX_MEMORY,
+        .max_steps = CARD_MAX_STEPS,
+        .usual_steps = CARD_MAX_STEPS,
+        .hint = "; tools/trace runs larger programs",
+    });
     for (; *arguments != NULL; arguments++) {
-        const char *name = *arguments;
-        if (strncmp(name, "--", 2) != 0) {
-            take_file(&options, name);
-            continue;
-        }
-        const char *value = *++arguments;
-        if (value == NULL)
-            stop("%s needs a value", name);
-        if (!take_option(&options, name, value))
-            stop("%s: there is no such option; --help tells more", name);
+        if (strncmp(*arguments, "--", 2) != 0)
+            take_file(&options, *arguments);
+        else if (take_option(&options, arguments[0], arguments[1]))
+            arguments++;
+        else
+            stop("%s: there is no such option; --help tells more", *arguments);
     }
     settle(&options);
     return options;

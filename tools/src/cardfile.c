@@ -38,11 +38,6 @@ static void see_end(const struct reader *reader)
         stop("%s: line %" PRIu32 " is left over", reader->file->name, reader->line + 1);
 }
 
-bool is_card(const struct file *file)
-{
-    return file->length >= 6 && memcmp(file->bytes, "cores=", 6) == 0;
-}
-
 static void read_words(struct reader *reader, struct job *job)
 {
     uint32_t words = (uint32_t)decimal("words", value_of(reader, "words"), 0, job->memory_bytes / 4);

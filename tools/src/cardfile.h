@@ -5,8 +5,6 @@
 #include "or1k.h"
 #include "program.h"
 
-bool is_card(const struct file *file);
-
 /* The card's job, with its memory. */
 struct job job_of_card(const struct file *file);
 

@@ -61,28 +61,40 @@ struct options usual_options(struct limits limits)
     };
 }
 
+bool is_option(const char *name, const char *option, const char *value)
+{
+    if (strcmp(name, option) != 0)
+        return false;
+    if (value == NULL)
+        stop("%s needs a value", name);
+    return true;
+}
+
 bool take_option(struct options *options, const char *name, const char *value)
 {
     struct job *job = &options->job;
-    if (strcmp(name, "--cores") == 0)
-        job->cores = (uint32_t)decimal(name, value, 1, OR1K_MAX_CORES);
-    else if (strcmp(name, "--memory") == 0)
-        job->memory_bytes = multiple_of_4(name, value, (uint32_t)decimal(name, value, OR1K_MIN_MEMORY, options->limits.max_memory));
-    else if (strcmp(name, "--steps") == 0)
+    if (is_option(name, "--steps", value)) {
         job->steps = decimal(name, value, 0, options->limits.max_steps);
-    else if (strcmp(name, "--schedule") == 0)
+        options->has_steps = true;
+        return true;
+    }
+    if (is_option(name, "--cores", value))
+        job->cores = (uint32_t)decimal(name, value, 1, OR1K_MAX_CORES);
+    else if (is_option(name, "--memory", value))
+        job->memory_bytes = multiple_of_4(name, value, (uint32_t)decimal(name, value, OR1K_MIN_MEMORY, options->limits.max_memory));
+    else if (is_option(name, "--schedule", value))
         take_schedule(job, name, value);
-    else if (strcmp(name, "--entry") == 0) {
+    else if (is_option(name, "--entry", value)) {
         job->entry = multiple_of_4(name, value, hexadecimal(name, value));
         options->has_entry = true;
-    } else if (strcmp(name, "--at") == 0) {
+    } else if (is_option(name, "--at", value)) {
         options->at = hexadecimal(name, value);
         options->has_at = true;
-    } else if (strcmp(name, "--sr") == 0)
+    } else if (is_option(name, "--sr", value))
         job->sr = status(name, value);
     else
         return false;
-    options->has_any = true;
+    options->other = name;
     return true;
 }
 

@@ -26,6 +26,7 @@ struct limits {
     uint32_t max_memory; /* also what holds if nothing is chosen */
     uint64_t max_steps;
     uint64_t usual_steps;
+    const char *hint; /* for a program that needs more memory */
 };
 
 /* The options that the tools share. */
@@ -33,10 +34,11 @@ struct options {
     struct limits limits;
     const char *file;
     struct job job; /* without its memory */
+    bool has_steps;
     bool has_entry;
     bool has_at;
-    bool has_any; /* one of these options was given */
-    uint32_t at;  /* where a flat binary begins */
+    const char *other; /* one that was given, but for --steps */
+    uint32_t at;       /* where a flat binary begins */
 };
 
 /* Numbers of an option; they end with a message if the text is none or outside the limits. */
@@ -45,6 +47,9 @@ uint32_t hexadecimal(const char *option, const char *text);
 
 /* The options before anything is read. */
 struct options usual_options(struct limits limits);
+
+/* The name is this option's; then a value must stand after it. */
+bool is_option(const char *name, const char *option, const char *value);
 
 /* Takes one of the shared options, if it is one. */
 bool take_option(struct options *options, const char *name, const char *value);

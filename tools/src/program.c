@@ -74,6 +74,11 @@ bool is_elf(const struct file *file)
     return file->length >= 4 && memcmp(file->bytes, "\177ELF", 4) == 0;
 }
 
+bool is_card(const struct file *file)
+{
+    return file->length >= 6 && memcmp(file->bytes, "cores=", 6) == 0;
+}
+
 static uint32_t half_at(const uint8_t *bytes)
 {
     return (uint32_t)bytes[0] << 8 | bytes[1];
@@ -138,8 +143,8 @@ static void see_inside(const struct options *options, const char *name, const ch
 {
     uint32_t memory_bytes = options->job.memory_bytes;
     if (address + bytes > memory_bytes)
-        stop("%s: %s of %" PRIu64 " bytes at %08" PRIx32 " does not lie in memory, which ends at %08" PRIx32 " (--memory takes up to %" PRIu32 ")", name,
-             what, bytes, address, memory_bytes, options->limits.max_memory);
+        stop("%s: %s of %" PRIu64 " bytes at %08" PRIx32 " does not lie in memory, which ends at %08" PRIx32 " (--memory takes up to %" PRIu32 "%s)",
+             name, what, bytes, address, memory_bytes, options->limits.max_memory, options->limits.hint);
 }
 
 /* Puts a segment into memory; loaded says which bytes of it a segment has put there. */
@@ -188,11 +193,16 @@ static void load_elf(struct options *options, const struct file *file)
 
 static void load_flat(struct options *options, const struct file *file)
 {
-    if (!options->has_entry)
-        stop("%s: is no ELF file; a flat binary needs --entry, since it has none of its own", file->name);
+    uint32_t at = options->at, entry = options->job.entry;
+    if (is_card(file))
+        stop("%s: is a card already", file->name);
+    if (!options->has_entry || !options->has_at)
+        stop("%s: is no ELF file; a flat binary needs --at and --entry, since it does not say where it lies and starts", file->name);
     if (file->length == 0)
         stop("%s: is empty", file->name);
-    see_inside(options, file->name, "a flat binary", options->at, file->length);
+    see_inside(options, file->name, "a flat binary", at, file->length);
+    if (entry < at || entry - at >= file->length)
+        stop("%s: the entry %08" PRIx32 " is not in the %zu bytes at %08" PRIx32, file->name, entry, file->length, at);
     memcpy(options->job.memory + options->at, file->bytes, file->length);
 }
 

@@ -16,6 +16,7 @@ struct file {
 struct file read_file(const char *name);
 
 bool is_elf(const struct file *file);
+bool is_card(const struct file *file);
 
 /* A word as memory holds it, high byte first. */
 uint32_t word_at(const uint8_t *bytes);

@@ -14,6 +14,8 @@ const char *const tool = "trace";
 
 enum {
     MAX_RANGES = 16,
+    MAX_BEFORE = 1000,
+    KEPT = MAX_BEFORE + 1,
     USUAL_SHOWN = 8,
     USUAL_STEPS = 10000000,
     STEPS_BETWEEN_SIGNS = 1 << 24, /* of life, in a long run */
@@ -33,14 +35,17 @@ struct range {
 /* What is asked for. */
 struct request {
     struct options options;
-    uint64_t exceptions; /* how many of each list are shown */
-    uint64_t often;
+    uint64_t exceptions; /* how many are shown */
+    uint64_t before;     /* how many steps before each of them */
+    uint64_t often;      /* how many addresses */
     struct range ranges[MAX_RANGES];
     int range_count;
 };
 
 /* An instruction as an entry finds it. */
 struct fetch {
+    uint64_t step;
+    uint32_t core;
     uint32_t pc;
     uint32_t delay;
     bool is_inside; /* memory has a word there */
@@ -52,6 +57,9 @@ struct trace {
     struct job job;
     uint32_t vectors[OR1K_VECTORS];
     uint32_t states[OR1K_MAX_CORES * OR1K_STATE_WORDS];
+    struct request request;
+    struct fetch last[KEPT]; /* the instructions of the last steps, that of step n at n % KEPT */
+    uint64_t printed;        /* the last step of them that was printed */
     uint64_t step;
     uint64_t executed;
     uint64_t raised;
@@ -83,13 +91,13 @@ static void take_range(struct request *request, const char *option, const char *
 
 static void take_argument(struct request *request, const char *name, const char *value)
 {
-    if (value == NULL)
-        stop("%s needs a value", name);
-    if (strcmp(name, "--exceptions") == 0)
+    if (is_option(name, "--exceptions", value))
         request->exceptions = decimal(name, value, 0, MAX_STEPS);
-    else if (strcmp(name, "--often") == 0)
+    else if (is_option(name, "--before", value))
+        request->before = decimal(name, value, 0, MAX_BEFORE);
+    else if (is_option(name, "--often", value))
         request->often = decimal(name, value, 0, MAX_STEPS);
-    else if (strcmp(name, "--dump") == 0)
+    else if (is_option(name, "--dump", value))
         take_range(request, name, value);
     else if (!take_option(&request->options, name, value))
         stop("%s: there is no such option; --help tells more", name);
@@ -98,7 +106,7 @@ static void take_argument(struct request *request, const char *name, const char 
 static struct request read_arguments(char **arguments)
 {
     struct request request = {
-        .options = usual_options((struct limits){.max_memory = OR1K_MAX_MEMORY, .max_steps = MAX_STEPS, .usual_steps = USUAL_STEPS}),
+        .options = usual_options((struct limits){.max_memory = OR1K_MAX_MEMORY, .max_steps = MAX_STEPS, .usual_steps = USUAL_STEPS, .hint = ""}),
         .exceptions = USUAL_SHOWN,
         .often = USUAL_SHOWN,
     };
@@ -120,9 +128,12 @@ static struct job job_of(struct request *request)
         load_program(&request->options, &file);
         return request->options.job;
     }
-    if (request->options.has_any)
-        stop("%s: is a card, which says itself how it is run", file.name);
-    return job_of_card(&file);
+    if (request->options.other != NULL)
+        stop("%s is for a program: the card %s says that itself", request->options.other, file.name);
+    struct job job = job_of_card(&file);
+    if (request->options.has_steps)
+        job.steps = request->options.job.steps;
+    return job;
 }
 
 /* The file named vectors where the tool is started, as the runner takes it, or the old list. */
@@ -148,32 +159,35 @@ static void *zeros(size_t count, size_t size)
     return all;
 }
 
-static struct trace begin(struct job job)
+static struct trace *begin(struct request request)
 {
-    struct trace trace = {.job = job};
-    choose_vectors(trace.vectors);
-    for (uint32_t core = 0; core < job.cores; core++) {
-        uint32_t *state = trace.states + core * OR1K_STATE_WORDS;
-        or1k_reset(state, job.entry);
-        state[OR1K_SR] = job.sr;
+    struct trace *trace = zeros(1, sizeof *trace);
+    trace->job = job_of(&request);
+    trace->request = request;
+    choose_vectors(trace->vectors);
+    for (uint32_t core = 0; core < trace->job.cores; core++) {
+        uint32_t *state = trace->states + core * OR1K_STATE_WORDS;
+        or1k_reset(state, trace->job.entry);
+        state[OR1K_SR] = trace->job.sr;
     }
-    trace.times = zeros(job.memory_bytes / 4, sizeof *trace.times);
-    trace.words = zeros(job.memory_bytes / 4, sizeof *trace.words);
+    trace->times = zeros(trace->job.memory_bytes / 4, sizeof *trace->times);
+    trace->words = zeros(trace->job.memory_bytes / 4, sizeof *trace->words);
     return trace;
 }
 
-static struct fetch fetch_at(const struct trace *trace, const uint32_t *state)
+static struct fetch fetch_of(const struct trace *trace, uint32_t core)
 {
-    struct fetch fetch = {.pc = state[OR1K_PC], .delay = state[OR1K_DELAY]};
+    const uint32_t *state = trace->states + core * OR1K_STATE_WORDS;
+    struct fetch fetch = {.step = trace->step, .core = core, .pc = state[OR1K_PC], .delay = state[OR1K_DELAY]};
     fetch.is_inside = fetch.pc < trace->job.memory_bytes;
     if (fetch.is_inside)
         fetch.word = word_at(trace->job.memory + fetch.pc);
     return fetch;
 }
 
-static void print_place(uint32_t core, const struct fetch *fetch)
+static void print_place(const char *what, const struct fetch *fetch)
 {
-    printf(" core=%" PRIu32 " pc=%08" PRIx32 " delay=%" PRIu32, core, fetch->pc, fetch->delay);
+    printf("%s step=%" PRIu64 " core=%" PRIu32 " pc=%08" PRIx32 " delay=%" PRIu32, what, fetch->step, fetch->core, fetch->pc, fetch->delay);
 }
 
 static void print_instruction(const struct fetch *fetch)
@@ -193,34 +207,51 @@ static int cause_of(const struct trace *trace, uint32_t pc)
     stop("step %" PRIu64 ": no vector is %08" PRIx32, trace->step, pc);
 }
 
-static void see_exception(struct trace *trace, uint64_t shown, uint32_t core, const struct fetch *fetch)
+/* The steps before this one that are asked for and were not printed before. */
+static void print_before(struct trace *trace)
 {
-    const uint32_t *state = trace->states + core * OR1K_STATE_WORDS;
+    uint64_t count = trace->step - 1 - trace->printed;
+    if (count > trace->request.before)
+        count = trace->request.before;
+    for (uint64_t step = trace->step - count; step < trace->step; step++) {
+        const struct fetch *fetch = &trace->last[step % KEPT];
+        if (fetch->step != step)
+            continue; /* a halted core's */
+        print_place("before", fetch);
+        print_instruction(fetch);
+    }
+    trace->printed = trace->step;
+}
+
+static void see_exception(struct trace *trace, const struct fetch *fetch)
+{
+    const uint32_t *state = trace->states + fetch->core * OR1K_STATE_WORDS;
     int cause = cause_of(trace, state[OR1K_PC]);
     trace->by_cause[cause]++;
-    if (trace->raised++ >= shown)
+    if (trace->raised++ >= trace->request.exceptions)
         return;
-    printf("exception step=%" PRIu64, trace->step);
-    print_place(core, fetch);
+    print_before(trace);
+    print_place("exception", fetch);
     printf(" cause=%s epcr=%08" PRIx32 " eear=%08" PRIx32, causes[cause], state[OR1K_EPCR], state[OR1K_EEAR]);
+    printf(" r1=%08" PRIx32 " r9=%08" PRIx32, state[1], state[9]);
     print_instruction(fetch);
 }
 
-static void see_halt(const struct trace *trace, uint32_t core, const struct fetch *fetch)
+static void see_halt(const struct fetch *fetch)
 {
-    printf("halted step=%" PRIu64, trace->step);
-    print_place(core, fetch);
+    print_place("halted", fetch);
     print_instruction(fetch);
 }
 
 /* One entry of the schedule. All lines are low, so that a running core inside memory fetches. */
-static void run_entry(struct trace *trace, uint64_t shown, uint8_t core)
+static void run_entry(struct trace *trace, uint8_t core)
 {
-    uint32_t *state = trace->states + core * OR1K_STATE_WORDS;
+    const uint32_t *state = trace->states + core * OR1K_STATE_WORDS;
     const uint32_t levels[1] = {0};
     if (state[OR1K_MODE] != OR1K_RUNNING)
         return;
-    struct fetch fetch = fetch_at(trace, state);
+    struct fetch fetch = fetch_of(trace, core);
+    trace->last[trace->step % KEPT] = fetch;
     uint64_t answer = or1k_plain_run(trace->job.memory, trace->job.memory_bytes, trace->states, trace->job.cores * OR1K_STATE_WORDS, &core, 1, levels, 1,
                                      OR1K_NO_LIMIT, trace->vectors, OR1K_VECTORS);
     if (or1k_refusal(answer) != OR1K_ACCEPTED)
@@ -231,9 +262,9 @@ static void run_entry(struct trace *trace, uint64_t shown, uint8_t core)
         trace->words[fetch.pc / 4] = fetch.word;
     }
     if (or1k_raised(answer) != 0)
-        see_exception(trace, shown, core, &fetch);
+        see_exception(trace, &fetch);
     if (state[OR1K_MODE] != OR1K_RUNNING)
-        see_halt(trace, core, &fetch);
+        see_halt(&fetch);
 }
 
 static bool is_running(const struct trace *trace)
@@ -245,14 +276,14 @@ static bool is_running(const struct trace *trace)
 }
 
 /* Up to the last step, or until no core runs any more. */
-static void run_all(struct trace *trace, uint64_t shown)
+static void run_all(struct trace *trace)
 {
     const char *digits = trace->job.schedule;
     size_t count = strlen(digits);
     while (trace->step < trace->job.steps && is_running(trace)) {
         uint8_t core = (uint8_t)(digits[trace->step % count] - '0');
         trace->step++;
-        run_entry(trace, shown, core);
+        run_entry(trace, core);
         if (trace->step % STEPS_BETWEEN_SIGNS == 0)
             fprintf(stderr, "%s: %" PRIu64 " steps\n", tool, trace->step);
     }
@@ -261,12 +292,10 @@ static void run_all(struct trace *trace, uint64_t shown)
 static void print_running(const struct trace *trace)
 {
     for (uint32_t core = 0; core < trace->job.cores; core++) {
-        const uint32_t *state = trace->states + core * OR1K_STATE_WORDS;
-        if (state[OR1K_MODE] != OR1K_RUNNING)
+        struct fetch next = fetch_of(trace, core);
+        if (trace->states[core * OR1K_STATE_WORDS + OR1K_MODE] != OR1K_RUNNING)
             continue;
-        struct fetch next = fetch_at(trace, state);
-        printf("running step=%" PRIu64, trace->step);
-        print_place(core, &next);
+        print_place("running", &next);
         print_instruction(&next);
     }
 }
@@ -281,9 +310,9 @@ static uint32_t most_often(const struct trace *trace)
     return best;
 }
 
-static void print_often(struct trace *trace, uint64_t shown)
+static void print_often(struct trace *trace)
 {
-    for (uint64_t i = 0; i < shown; i++) {
+    for (uint64_t i = 0; i < trace->request.often; i++) {
         uint32_t best = most_often(trace);
         if (trace->times[best] == 0)
             return;
@@ -304,6 +333,20 @@ static void print_range(const struct trace *trace, struct range range)
         if (place == WORDS_IN_LINE - 1 || at + 4 >= range.to)
             printf("\n");
     }
+}
+
+static void print_ranges(const struct trace *trace)
+{
+    for (int i = 0; i < trace->request.range_count; i++)
+        print_range(trace, trace->request.ranges[i]);
+}
+
+/* Before the run, which may be long. */
+static void see_ranges(const struct trace *trace)
+{
+    for (int i = 0; i < trace->request.range_count; i++)
+        if (trace->request.ranges[i].to > trace->job.memory_bytes)
+            stop("--dump %08" PRIx32 "-%08" PRIx32 ": memory ends at %08" PRIx32, trace->request.ranges[i].from, trace->request.ranges[i].to, trace->job.memory_bytes);
 }
 
 static void print_causes(const struct trace *trace)
@@ -335,18 +378,14 @@ static void print_result(const struct trace *trace)
 int main(int argc, char **argv)
 {
     (void)argc;
-    struct request request = read_arguments(argv + 1);
-    struct trace trace = begin(job_of(&request));
-    for (int i = 0; i < request.range_count; i++)
-        if (request.ranges[i].to > trace.job.memory_bytes)
-            stop("--dump: memory ends at %08" PRIx32, trace.job.memory_bytes);
-    run_all(&trace, request.exceptions);
-    print_running(&trace);
-    print_causes(&trace);
-    print_often(&trace, request.often);
-    for (int i = 0; i < request.range_count; i++)
-        print_range(&trace, request.ranges[i]);
-    print_result(&trace);
+    struct trace *trace = begin(read_arguments(argv + 1));
+    see_ranges(trace);
+    run_all(trace);
+    print_running(trace);
+    print_causes(trace);
+    print_often(trace);
+    print_ranges(trace);
+    print_result(trace);
     see_written();
     return 0;
 }
