@@ -60,7 +60,7 @@ enum {
 
 /* The bits of SR and ESR; all others are 0. */
 enum {
-    OR1K_SR_SM = 1 << 0,   /* supervisor mode; an exception sets it and clears the next two; nothing heeds SM and TEE */
+    OR1K_SR_SM = 1 << 0,   /* supervisor mode; an exception sets it and clears TEE, IEE and OVE; nothing heeds SM and TEE */
     OR1K_SR_TEE = 1 << 1,  /* tick timer exceptions */
     OR1K_SR_IEE = 1 << 2,  /* interrupts are taken */
     OR1K_SR_F = 1 << 9,    /* flag */
