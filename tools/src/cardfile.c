@@ -60,7 +60,7 @@ struct job job_of_card(const struct file *file)
     take_option(&options, "--steps", value_of(&reader, "steps"));
     take_option(&options, "--schedule", value_of(&reader, "schedule"));
     settle(&options);
-    options.job.memory = new_memory(options.job.memory_bytes);
+    options.job.memory = zeros(options.job.memory_bytes, 1);
     read_words(&reader, &options.job);
     see_end(&reader);
     return options.job;

@@ -89,12 +89,12 @@ uint32_t word_at(const uint8_t *bytes)
     return half_at(bytes) << 16 | half_at(bytes + 2);
 }
 
-uint8_t *new_memory(uint32_t memory_bytes)
+void *zeros(size_t count, size_t size)
 {
-    uint8_t *memory = calloc(memory_bytes, 1);
-    if (memory == NULL)
+    void *all = calloc(count, size);
+    if (all == NULL)
         stop("there is no memory left");
-    return memory;
+    return all;
 }
 
 /* A linked program for the board, and nothing else. */
@@ -180,7 +180,7 @@ static void load_elf(struct options *options, const struct file *file)
         stop("--at is for a flat binary, and %s is an ELF file, which says itself where it is loaded", file->name);
     const uint8_t *header = segment_headers(file);
     uint32_t count = half_at(file->bytes + SEGMENT_COUNT);
-    uint8_t *loaded = new_memory(options->job.memory_bytes);
+    uint8_t *loaded = zeros(options->job.memory_bytes, 1);
     for (uint32_t i = 0; i < count; i++, header += SEGMENT_HEADER_BYTES) {
         struct segment segment = segment_of(header);
         if (word_at(header) == LOADED && segment.memory_bytes > 0)
@@ -208,7 +208,7 @@ static void load_flat(struct options *options, const struct file *file)
 
 void load_program(struct options *options, const struct file *file)
 {
-    options->job.memory = new_memory(options->job.memory_bytes);
+    options->job.memory = zeros(options->job.memory_bytes, 1);
     if (is_elf(file))
         load_elf(options, file);
     else

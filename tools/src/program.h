@@ -21,8 +21,8 @@ bool is_card(const struct file *file);
 /* A word as memory holds it, high byte first. */
 uint32_t word_at(const uint8_t *bytes);
 
-/* memory_bytes zeros. */
-uint8_t *new_memory(uint32_t memory_bytes);
+/* So many items of that size, all 0. */
+void *zeros(size_t count, size_t size);
 
 /* Puts the program into the job's new memory, and its entry into the job, if the options name none. */
 void load_program(struct options *options, const struct file *file);

@@ -136,27 +136,24 @@ static struct job job_of(struct request *request)
     return job;
 }
 
-/* The file named vectors where the tool is started, as the runner takes it, or the old list. */
+static bool is_there(const char *name)
+{
+    FILE *stream = fopen(name, "rb");
+    if (stream == NULL)
+        return errno != ENOENT;
+    fclose(stream);
+    return true;
+}
+
+/* The file named vectors where the tool is started, as the runner takes it, or the papers' list. */
 static void choose_vectors(uint32_t vectors[OR1K_VECTORS])
 {
     static const uint32_t usual[OR1K_VECTORS] = OR1K_DEFAULT_VECTORS;
-    FILE *stream = fopen("vectors", "rb");
-    if (stream == NULL && errno == ENOENT) {
+    if (is_there("vectors")) {
+        struct file file = read_file("vectors");
+        read_vectors(&file, vectors);
+    } else
         memcpy(vectors, usual, sizeof usual);
-        return;
-    }
-    if (stream != NULL)
-        fclose(stream);
-    struct file file = read_file("vectors");
-    read_vectors(&file, vectors);
-}
-
-static void *zeros(size_t count, size_t size)
-{
-    void *all = calloc(count, size);
-    if (all == NULL)
-        stop("there is no memory left");
-    return all;
 }
 
 static struct trace *begin(struct request request)
