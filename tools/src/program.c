@@ -61,7 +61,7 @@ struct file read_file(const char *name)
         if (file.length < capacity)
             break;
         if (capacity >= MAX_FILE)
-            stop("%s: is longer than %d bytes", name, MAX_FILE);
+            stop("%s: has %d bytes or more", name, MAX_FILE);
     }
     if (ferror(stream))
         stop("%s: could not be read: %s", name, strerror(errno));
@@ -203,7 +203,7 @@ static void load_flat(struct options *options, const struct file *file)
     see_inside(options, file->name, "a flat binary", at, file->length);
     if (entry < at || entry - at >= file->length)
         stop("%s: the entry %08" PRIx32 " is not in the %zu bytes at %08" PRIx32, file->name, entry, file->length, at);
-    memcpy(options->job.memory + options->at, file->bytes, file->length);
+    memcpy(options->job.memory + at, file->bytes, file->length);
 }
 
 void load_program(struct options *options, const struct file *file)
