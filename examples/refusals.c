@@ -121,6 +121,14 @@ int main(void)
     or1k_reset(states, 0);
     states[OR1K_MODE] = OR1K_HALTED;
     printf("halted: %" PRIu32 "\n", refusal_of_states(OR1K_STATE_WORDS));
+    states[OR1K_MODE] = OR1K_LINKED;
+    printf("core 0 linked: %" PRIu32 "\n", refusal_of_states(OR1K_STATE_WORDS));
+    or1k_reset(states, 0);
+    for (uint32_t mode = OR1K_LINKED; mode <= OR1K_RUNNING; mode++) {
+        or1k_reset(states + OR1K_STATE_WORDS, 0);
+        states[OR1K_STATE_WORDS + OR1K_MODE] = mode;
+        printf("core 1 in mode %" PRIu32 ": %" PRIu32 "\n", mode, refusal_of_states(2 * OR1K_STATE_WORDS));
+    }
     vectors[OR1K_VECTOR_BUS] = vectors[OR1K_VECTOR_ALIGNMENT];
     printf("two equal vectors, plain run: %" PRIu32 "\n", refusal_of_states(OR1K_STATE_WORDS));
     return 0;

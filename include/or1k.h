@@ -52,9 +52,10 @@ enum {
     OR1K_STATE_WORDS /* how many words a state has: 46 */
 };
 
-/* The modes. A halted core's entries of the schedule do nothing. */
+/* The modes. Only a running core's entries of the schedule do something. */
 enum {
     OR1K_HALTED = 0,
+    OR1K_LINKED = 1, /* of cores 1 to 3: it executes what core 0 fetches (see below); no run makes a core linked, the caller does */
     OR1K_RUNNING = 3
 };
 
@@ -131,6 +132,12 @@ static inline void or1k_reset(uint32_t *state, uint32_t entry)
  * Nothing else is asked: lengths, items and the limit may be anything, and what breaks a rule is refused before anything is written. Nothing is kept
  * after a call, so threads may call at once with buffers of their own.
  *
+ * Linked cores. An instruction that core 0 fetches and completes is then executed by every linked core too, in rising order, each on its own state
+ * and with its own core number, but at core 0's PC and delay; afterwards each takes core 0's PC, delay and target. So a branch goes by core 0's flag,
+ * l.jr and l.jalr by core 0's register, r9 gets core 0's return address, and l.rfe changes nothing else of a linked core. One that would raise is
+ * halted instead and writes nothing else; raised does not count it. l.nop 1 of core 0 halts all linked cores. When core 0 raises or is interrupted,
+ * or is halted, they do nothing; they have no interrupts of their own. A shared fetch counts once in executed and in reused.
+ *
  * A longer run is further calls on the same buffers: each goes on from what the last one left, which is accepted again, and counts from 0.
  * Before it runs, a call of the fast run looks through the cache: about 0.4 ns for an empty entry and 6 ns for a filled one
  * (docs/PERFORMANCE.md), so few long schedules cost less than many short ones. Whoever writes memory between two calls sets the entries of
@@ -142,9 +149,10 @@ enum {
     OR1K_ACCEPTED = 0,
     OR1K_REFUSED_MEMORY_LENGTH = 1,   /* memory is too short, too long or no multiple of 4 */
     OR1K_REFUSED_STATES_LENGTH = 2,   /* the states are not OR1K_STATE_WORDS words for each of 1 to 4 cores */
-    OR1K_REFUSED_STATE = 3,           /* a state breaks a rule: r0 is 0; delay and link are 0 or 1; mode is OR1K_HALTED or OR1K_RUNNING;
-                                         PC, target, EPCR and link address are multiples of 4; target is 0 if delay is 0, link address 0 if
-                                         link is 0; SR and ESR have OR1K_SR_FO and no bits but those above; PICMR has bits 0 and 1 */
+    OR1K_REFUSED_STATE = 3,           /* a state breaks a rule: r0 is 0; delay and link are 0 or 1; mode is OR1K_HALTED, OR1K_RUNNING or,
+                                         except for core 0, OR1K_LINKED; PC, target, EPCR and link address are multiples of 4; target is 0
+                                         if delay is 0, link address 0 if link is 0; SR and ESR have OR1K_SR_FO and no bits but those above;
+                                         PICMR has bits 0 and 1 */
     OR1K_REFUSED_SCHEDULE_LENGTH = 4, /* the schedule is too long */
     OR1K_REFUSED_CORE = 5,            /* the schedule names a core that is not there */
     OR1K_REFUSED_CACHE_LENGTH = 6,    /* the cache has not one entry for each word of memory */
@@ -159,8 +167,8 @@ enum {
  * On a running core's entry PICSR first gains the lines that are high and have their bit in PICMR. If it is then not 0, SR has IEE and no delay slot
  * is pending, the core takes an exception (OR1K_VECTOR_INTERRUPT) in place of an instruction, which counts as executed and raised: EPCR is PC, EEAR and
  * PICSR stay, and ESR, SR and the link are as after any exception.
- * An aligned store or l.swa below the limit, linked or not, raises a bus error (OR1K_VECTOR_BUS) with its address in EEAR, writes no memory and clears no
- * other core's link. Loads, l.lwa, p.* and fetches are free there. */
+ * An aligned store or l.swa below the limit, with a link or without, raises a bus error (OR1K_VECTOR_BUS) with its address in EEAR, writes no memory
+ * and clears no other core's link. Loads, l.lwa, p.* and fetches are free there. */
 uint64_t or1k_plain_run(uint8_t *memory, size_t memory_length, uint32_t *states, size_t states_length,
                         const uint8_t *schedule, size_t schedule_length, const uint32_t *levels, size_t levels_length,
                         uint32_t limit, const uint32_t *vectors, size_t vectors_length);

@@ -3,6 +3,7 @@
 use crate::isa::{self, Insn, Kind};
 use crate::levels::levels;
 use crate::limits;
+use crate::linked;
 use crate::lists;
 use crate::programs;
 use crate::rng::Rng;
@@ -86,7 +87,9 @@ impl Case {
 
     /// Another schedule, with random levels.
     pub fn throw_schedule(&mut self, rng: &mut Rng, entries_most: usize) {
+        let mut farther_aside = rng.farther_aside();
         self.schedule = schedule(rng, self.cores(), entries_most);
+        linked::lead(&mut farther_aside, self);
         self.throw_levels(rng);
     }
 
@@ -100,6 +103,7 @@ impl Case {
 /// A case that no refusal is met by, with at most so many entries.
 pub fn accepted_case(rng: &mut Rng, entries_most: usize) -> Case {
     let (mut aside, mut far_aside) = (rng.aside(), rng.far_aside());
+    let mut farther_aside = rng.farther_aside();
     let bytes = match rng.below(24) {
         0 => 4 * rng.between(1_024, 4_096),
         1 => 4_100,
@@ -116,6 +120,7 @@ pub fn accepted_case(rng: &mut Rng, entries_most: usize) -> Case {
     }
     limits::throw(&mut aside, &mut case);
     lists::throw(&mut far_aside, &mut case);
+    linked::throw(&mut farther_aside, &mut case);
     case.throw_schedule(rng, entries_most);
     case.table = accepted_table(rng, &case);
     case
@@ -126,6 +131,7 @@ pub fn long_case(rng: &mut Rng) -> Case {
     let mut case = accepted_case(rng, 0);
     let cores = case.cores();
     case.schedule = (0..SCHEDULE_MOST).map(|_| rng.below(cores) as u8).collect();
+    linked::lead(&mut rng.farther_aside(), &mut case);
     case.throw_levels(rng);
     case
 }
@@ -522,7 +528,11 @@ fn break_some_sheet(rng: &mut Rng, case: &mut Case) {
         9 => (sheet[place::LINK], sheet[place::LINK_ADDRESS]) = (0, 4 * odd),
         10 => (sheet[place::LINK], sheet[place::LINK_ADDRESS]) = (1, 0x100 | odd),
         11 | 12 => sheet[place::PICMR] &= !odd,
-        _ => sheet[place::MODE] = rng.pick(&[1, 2, 4, 7, 0x103, 0xffff_ffff]),
+        _ => {
+            // 1 is core 0's alone to be turned back.
+            let one = if core == 0 { 1 } else { 0x101 };
+            sheet[place::MODE] = rng.pick(&[one, one, one, 2, 2, 4, 7, 0x103, 0xffff_ffff]);
+        }
     }
 }
 

@@ -1,7 +1,7 @@
 //! One instruction on one core ("One instruction").
 
 use crate::isa::{Insn, Kind, Reg};
-use crate::state::{self, Core, CY, DSX, F, IEE, OV, OVE, SM, TEE, UNMASKABLE};
+use crate::state::{self, Core, Mode, CY, DSX, F, IEE, OV, OVE, SM, TEE, UNMASKABLE};
 use crate::vectors::Vectors;
 
 /// Why an instruction did not complete, in the order of the list of vectors.
@@ -29,6 +29,20 @@ pub struct Step {
     pub raised: Option<Cause>,
     /// The address of the word that a store wrote.
     pub stored: Option<u32>,
+    /// The same of cores 1 to 3, if they are linked and this is core 0's entry.
+    pub by_linked: [Option<u32>; 3],
+}
+
+impl Step {
+    /// An entry that took an exception.
+    fn raising(cause: Cause) -> Step {
+        Step { raised: Some(cause), ..Step::default() }
+    }
+
+    /// The words that were written, in their order.
+    pub fn written(&self) -> impl Iterator<Item = u32> {
+        [self.stored].into_iter().chain(self.by_linked).flatten()
+    }
 }
 
 /// The board as instructions meet it: they read all of its memory and write none
@@ -75,7 +89,7 @@ pub fn fetch(memory: &[u8], address: u32) -> Option<u32> {
 pub fn fetch_fault(core: &mut Core, vectors: &Vectors) -> Step {
     let exception = Cause::Bus.at(core.pc);
     take(core, vectors, exception);
-    Step { raised: Some(Cause::Bus), stored: None }
+    Step::raising(Cause::Bus)
 }
 
 /// 02, note 4: what an entry of a running core does with its lines before its
@@ -87,7 +101,7 @@ pub fn interrupt(core: &mut Core, vectors: &Vectors, lines: u32) -> Option<Step>
     let taken = core.picsr != 0 && core.has(IEE) && !core.delay;
     taken.then(|| {
         take(core, vectors, Cause::Interrupt.plain());
-        Step { raised: Some(Cause::Interrupt), stored: None }
+        Step::raising(Cause::Interrupt)
     })
 }
 
@@ -97,26 +111,96 @@ pub fn latch(core: &mut Core, lines: u32) {
     core.picsr |= lines & core.picmr;
 }
 
-/// Runs one decoded instruction of core `who`, which is in mode 3. It is put
-/// into each run's loop, which spares a third of a step's work.
+/// Runs one decoded instruction that core `who`, which is in mode 3, fetched: on that
+/// core and, if it is core 0, on the linked ones. It is put into each run's loop,
+/// which spares a third of a step's work.
 #[inline(always)]
 pub fn execute(cores: &mut [Core], who: usize, board: &mut Board, insn: Insn) -> Step {
+    let fetched = Fetched { insn, pc: cores[who].pc, delay: cores[who].delay };
+    let mut step = execute_alone(cores, who, board, insn);
+    // 02, note 8: "If core 0 raises, no linked core executes that fetch".
+    if who == 0 && step.raised.is_none() && cores.iter().any(Core::is_linked) {
+        step.by_linked = execute_linked(cores, board, fetched);
+    }
+    step
+}
+
+/// The same on that core alone.
+#[inline(always)]
+pub fn execute_alone(cores: &mut [Core], who: usize, board: &mut Board, insn: Insn) -> Step {
     let count = cores.len() as u32;
     let core = &mut cores[who];
     match operate(core, (who as u32, count), board, insn) {
         Err(exception) => {
             take(core, &board.vectors, exception);
-            Step { raised: Some(exception.cause), stored: None }
+            Step::raising(exception.cause)
         }
         Ok(Flow::Stored(word)) => {
             advance(core);
             clear_links(cores, word);
-            Step { raised: None, stored: Some(word) }
+            Step { stored: Some(word), ..Step::default() }
         }
         Ok(flow) => {
             go_on(core, flow);
             Step::default()
         }
+    }
+}
+
+/// What core 0 fetched, and where it then was.
+#[derive(Clone, Copy)]
+struct Fetched {
+    insn: Insn,
+    pc: u32,
+    delay: bool,
+}
+
+/// 02, note 8: what core 0 fetched and has completed is executed "by every linked
+/// core in rising order". Returns the words that cores 1 to 3 wrote.
+fn execute_linked(cores: &mut [Core], board: &mut Board, fetched: Fetched) -> [Option<u32>; 3] {
+    let mut stored = [None; 3];
+    for who in 1..cores.len() {
+        if cores[who].is_linked() {
+            stored[who - 1] = follow(cores, who, board, fetched);
+        }
+    }
+    stored
+}
+
+/// One of them, and the word that it wrote.
+fn follow(cores: &mut [Core], who: usize, board: &mut Board, fetched: Fetched) -> Option<u32> {
+    let identity = (who as u32, cores.len() as u32);
+    let (lead, before) = (cores[0], cores[who]);
+    let core = &mut cores[who];
+    (core.pc, core.delay) = (fetched.pc, fetched.delay);
+    let Ok(flow) = operate_linked(core, identity, board, fetched.insn) else {
+        // "goes to mode 0 ... and writes nothing else that step"
+        *core = Core { mode: Mode::Halted, ..before };
+        return None;
+    };
+    (core.pc, core.delay, core.target) = (lead.pc, lead.delay, lead.target);
+    match flow {
+        Flow::Halt => core.mode = Mode::Halted,
+        Flow::Stored(word) => {
+            clear_links(cores, word);
+            return Some(word);
+        }
+        // Where to go on is core 0's to say; l.rfe has no other effect.
+        Flow::Next | Flow::Jump(_) | Flow::Return => {}
+    }
+    None
+}
+
+/// An instruction on a linked core. Of jumps and branches, which core 0 has tested,
+/// only r9 is left: "core 0's link value".
+fn operate_linked(core: &mut Core, identity: (u32, u32), board: &mut Board, insn: Insn) -> Outcome {
+    match insn.kind {
+        Kind::J | Kind::Bnf | Kind::Bf | Kind::Jr | Kind::Rfe => Ok(Flow::Next),
+        Kind::Jal | Kind::Jalr => {
+            core.set(Reg::R9, core.pc.wrapping_add(8));
+            Ok(Flow::Next)
+        }
+        _ => operate(core, identity, board, insn),
     }
 }
 
@@ -561,7 +645,7 @@ fn go_on(core: &mut Core, flow: Flow) {
         // "advances, then halts its core"
         Flow::Halt => {
             advance(core);
-            core.running = false;
+            core.mode = Mode::Halted;
         }
     }
 }

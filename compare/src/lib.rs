@@ -19,6 +19,7 @@ pub mod image;
 pub mod isa;
 pub mod levels;
 pub mod limits;
+pub mod linked;
 pub mod lists;
 pub mod programs;
 pub mod rng;

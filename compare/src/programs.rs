@@ -149,7 +149,7 @@ fn pick_kind(rng: &mut Rng, first: Kind, last: Kind) -> Kind {
     TABLE[rng.between(first as usize, last as usize) - 1].kind
 }
 
-fn insn(kind: Kind, d: u8, a: u8, b: u8, imm: u32) -> Insn {
+pub(crate) fn insn(kind: Kind, d: u8, a: u8, b: u8, imm: u32) -> Insn {
     Insn::new(kind, d, a, b, imm)
 }
 
@@ -238,7 +238,7 @@ fn comparison(rng: &mut Rng) -> Insn {
 }
 
 /// Clears the fields that a kind does not use and fits its immediate.
-fn trim(insn: Insn) -> Insn {
+pub(crate) fn trim(insn: Insn) -> Insn {
     TABLE[insn.kind as usize - 1].layout.fit(insn)
 }
 
@@ -384,7 +384,7 @@ fn write(special: u32, value: u8) -> Insn {
     insn(Kind::Mtspr, 0, 0, value, special)
 }
 
-fn words(forms: &[Insn]) -> Vec<u32> {
+pub(crate) fn words(forms: &[Insn]) -> Vec<u32> {
     forms.iter().map(|form| isa::encode(form.entry()) as u32).collect()
 }
 

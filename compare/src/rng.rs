@@ -28,6 +28,11 @@ impl Rng {
         Rng::new(!self.state.rotate_left(16))
     }
 
+    /// A fourth one.
+    pub fn farther_aside(&self) -> Rng {
+        Rng::new(!self.state.rotate_left(48))
+    }
+
     pub fn next_u32(&mut self) -> u32 {
         (self.next_u64() >> 32) as u32
     }

@@ -102,7 +102,8 @@ pub fn plain_refusal(lent: &Lent) -> u8 {
     let Some(cores) = core_count(lent.sheets) else {
         return 2;
     };
-    if !lent.sheets.chunks(SHEET_WORDS).all(state::sheet_is_good) {
+    let mut sheets = lent.sheets.chunks(SHEET_WORDS).enumerate();
+    if !sheets.all(|(core, sheet)| state::sheet_is_good(core, sheet)) {
         return 3;
     }
     if lent.schedule.len() > SCHEDULE_MOST {
@@ -180,7 +181,7 @@ pub fn plain_run(lent: &mut Lent) -> Answer {
     let mut answer = Answer::default();
     for (&entry, &lines) in schedule.iter().zip(levels) {
         let who = usize::from(entry);
-        if cores[who].running {
+        if cores[who].is_running() {
             answer.executed += 1;
             let interrupt = exec::interrupt(&mut cores[who], &board.vectors, lines);
             answer.note(interrupt.unwrap_or_else(|| plain_step(board, cores, who)));
@@ -213,7 +214,7 @@ pub fn fast_run(lent: &mut Lent) -> Answer {
     let mut answer = Answer::default();
     for (&entry, &lines) in schedule.iter().zip(levels) {
         let who = usize::from(entry);
-        if cores[who].running {
+        if cores[who].is_running() {
             answer.executed += 1;
             let (step, reused) = match exec::interrupt(&mut cores[who], &board.vectors, lines) {
                 Some(interrupt) => (interrupt, false),
@@ -245,7 +246,7 @@ pub fn fast_step(
         *entry = isa::decode(word_of(&board.memory[pc as usize..pc as usize + 4]));
     }
     let step = exec::execute(cores, who, board, Insn::from_entry(*entry));
-    if let Some(word) = step.stored {
+    for word in step.written() {
         table[word as usize / 4] = 0;
     }
     (step, reused)
@@ -267,7 +268,7 @@ pub fn fast_run_by_history(lent: &mut Lent) -> Answer {
     let mut answer = Answer::default();
     for (&entry, &lines) in schedule.iter().zip(levels) {
         let who = usize::from(entry);
-        if cores[who].running {
+        if cores[who].is_running() {
             answer.executed += 1;
             let interrupt = exec::interrupt(&mut cores[who], &board.vectors, lines);
             let step = interrupt.unwrap_or_else(|| {
@@ -275,7 +276,7 @@ pub fn fast_run_by_history(lent: &mut Lent) -> Answer {
                 plain_step(board, cores, who)
             });
             answer.note(step);
-            if let Some(word) = step.stored {
+            for word in step.written() {
                 held[word as usize / 4] = false;
             }
         }

@@ -1,5 +1,5 @@
-//! One core, and the sheet of 46 words it is lent on ("Sheets"; 02, notes 2
-//! and 4).
+//! One core, and the sheet of 46 words it is lent on ("Sheets"; 02, notes 2, 4
+//! and 8).
 
 use crate::isa::Reg;
 
@@ -25,8 +25,35 @@ pub const SR_RESET: u32 = FIXED_ONE | SM;
 /// 02, note 4, of PICMR: "its bits 0 and 1 always 1", and "PICMR 3 at reset".
 pub const UNMASKABLE: u32 = 3;
 
-/// The value of a sheet's mode word for a running core; 0 is halted.
-pub const RUNNING: u32 = 3;
+/// What a core does, by its sheet's mode word.
+#[derive(Clone, Copy, Debug, PartialEq, Eq, Default)]
+pub enum Mode {
+    #[default]
+    Halted,
+    /// 02, note 8: it executes what core 0 fetches.
+    Linked,
+    Running,
+}
+
+impl Mode {
+    /// The mode with this number, if there is one.
+    pub fn of(number: u32) -> Option<Mode> {
+        [Mode::Halted, Mode::Linked, Mode::Running].into_iter().find(|mode| mode.number() == number)
+    }
+
+    pub fn number(self) -> u32 {
+        match self {
+            Mode::Halted => 0,
+            Mode::Linked => 1,
+            Mode::Running => 3,
+        }
+    }
+
+    /// "Mode 1 is allowed for cores 1 to 3."
+    fn is_for(self, core: usize) -> bool {
+        self != Mode::Linked || core != 0
+    }
+}
 
 /// Places on a sheet after r0-r31.
 pub mod place {
@@ -61,7 +88,7 @@ pub struct Core {
     pub esr: u32,
     pub link: bool,
     pub link_address: u32,
-    pub running: bool,
+    pub mode: Mode,
     pub machi: u32,
     pub maclo: u32,
     pub picmr: u32,
@@ -76,7 +103,7 @@ impl Core {
             pc: entry,
             sr: SR_RESET,
             esr: SR_RESET,
-            running: true,
+            mode: Mode::Running,
             picmr: UNMASKABLE,
             ..Core::default()
         }
@@ -97,7 +124,7 @@ impl Core {
             esr: sheet[place::ESR],
             link: sheet[place::LINK] == 1,
             link_address: sheet[place::LINK_ADDRESS],
-            running: sheet[place::MODE] == RUNNING,
+            mode: Mode::of(sheet[place::MODE]).unwrap_or_default(),
             machi: sheet[place::MACHI],
             maclo: sheet[place::MACLO],
             picmr: sheet[place::PICMR],
@@ -117,11 +144,21 @@ impl Core {
         sheet[place::ESR] = self.esr;
         sheet[place::LINK] = u32::from(self.link);
         sheet[place::LINK_ADDRESS] = self.link_address;
-        sheet[place::MODE] = if self.running { RUNNING } else { 0 };
+        sheet[place::MODE] = self.mode.number();
         sheet[place::MACHI] = self.machi;
         sheet[place::MACLO] = self.maclo;
         sheet[place::PICMR] = self.picmr;
         sheet[place::PICSR] = self.picsr;
+    }
+
+    #[inline]
+    pub fn is_running(&self) -> bool {
+        self.mode == Mode::Running
+    }
+
+    #[inline]
+    pub fn is_linked(&self) -> bool {
+        self.mode == Mode::Linked
     }
 
     /// A register's value.
@@ -178,9 +215,10 @@ pub fn sr_is_good(value: u32) -> bool {
     value == allowed_sr(value)
 }
 
-/// Whether a sheet of 46 words keeps every rule of "Sheets" and "a PICMR without
-/// its low two bits meets 3"; MACHI, MACLO and PICSR may be anything.
-pub fn sheet_is_good(sheet: &[u32]) -> bool {
+/// Whether a core's sheet of 46 words keeps every rule of "Sheets", "a PICMR without
+/// its low two bits meets 3" and note 8's of its mode; MACHI, MACLO and PICSR may be
+/// anything.
+pub fn sheet_is_good(core: usize, sheet: &[u32]) -> bool {
     let aligned = [place::PC, place::TARGET, place::EPCR, place::LINK_ADDRESS];
     let status = [place::SR, place::ESR];
     let delay = sheet[place::DELAY];
@@ -192,6 +230,6 @@ pub fn sheet_is_good(sheet: &[u32]) -> bool {
         && status.iter().all(|&word| sr_is_good(sheet[word]))
         && link <= 1
         && (link == 1 || sheet[place::LINK_ADDRESS] == 0)
-        && (sheet[place::MODE] == 0 || sheet[place::MODE] == RUNNING)
+        && Mode::of(sheet[place::MODE]).is_some_and(|mode| mode.is_for(core))
         && sheet[place::PICMR] & UNMASKABLE == UNMASKABLE
 }

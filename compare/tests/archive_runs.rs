@@ -84,15 +84,20 @@ fn one(seed: u64) -> Range<u64> {
     seed..seed + 1
 }
 
+/// 225,000 of them and more have no linked cores.
 #[test]
 fn accepted_cases() {
-    let counts: Mutex<Counts> = Mutex::default();
-    for_seeds("accepted cases", 1_000_000..1_225_000, |seed| {
+    // What no thread is at: each counts for itself.
+    let idle: Mutex<Vec<Counts>> = Mutex::default();
+    for_seeds("accepted cases", 1_000_000..1_345_000, |seed| {
         let case = cases::accepted_case(&mut Rng::new(seed), 600);
-        counts.lock().expect("no panic").watch(&case);
+        let mut counts = idle.lock().expect("no panic").pop().unwrap_or_default();
+        counts.watch(&case);
+        idle.lock().expect("no panic").push(counts);
         PAIR.case(&case, 0).map_err(|text| format!("seed {seed}: {text}"))
     });
-    counts.into_inner().expect("no panic").expect("accepted cases", 50_000, 50_000, 12);
+    let counts = idle.into_inner().expect("no panic").into_iter().reduce(Counts::joined);
+    counts.expect("some cases").expect("accepted cases", 50_000, 50_000, 12);
 }
 
 /// Many short schedules: the edges of the cases themselves.
@@ -384,6 +389,35 @@ fn the_most_refused_stores() {
         }
         let answer = check::after_fast(PAIR.other, &case).answer;
         assert_eq!((answer.raised, answer.reused), (65_536, 65_534));
+    }
+}
+
+/// Four cores that only store, each near where all of them run, up to memory's end and
+/// from the vector on again: l.sw 0(r3),r4, where r4 is that word or another.
+#[test]
+fn the_most_linked_stores() {
+    for seed in 0..12 {
+        let mut rng = Rng::new(10_000_000 + seed);
+        let mut case = Case {
+            memory: u32::to_be_bytes(0xd403_2000).repeat(MEMORY_LEAST / 4),
+            sheets: compare::card::reset_sheets(4, 0x100),
+            schedule: vec![0; SCHEDULE_MOST],
+            levels: vec![0; SCHEDULE_MOST],
+            limit: 0,
+            vectors: OLD.to_vec(),
+            table: vec![0; MEMORY_LEAST / 4],
+        };
+        for sheet in case.sheets.chunks_mut(SHEET_WORDS) {
+            sheet[3] = 4 * rng.between(0x40, 0x90) as u32;
+            // l.addi r3,r3,-64 leads them elsewhere.
+            sheet[4] = rng.pick(&[0xd403_2000, 0x1500_0000, 0x9c63_ffc0]);
+        }
+        for core in 1..4 {
+            case.sheets[core * SHEET_WORDS + place::MODE] = 1;
+        }
+        if let Err(text) = PAIR.case(&case, 0) {
+            stop("most linked stores", &text);
+        }
     }
 }
 

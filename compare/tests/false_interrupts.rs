@@ -33,7 +33,7 @@ const WRONG_LATCHES: [WrongInterrupt; 10] = [
     WrongInterrupt {
         name: "latches on all running cores",
         latch: |cores, _, lines| {
-            let running = cores.iter_mut().filter(|core| core.running);
+            let running = cores.iter_mut().filter(|core| core.is_running());
             running.for_each(|core| exec::latch(core, lines))
         },
         ..RIGHT
@@ -59,7 +59,7 @@ const WRONG_LATCHES: [WrongInterrupt; 10] = [
     WrongInterrupt {
         name: "does not apply the mask",
         latch: |cores, who, lines| {
-            if cores[who].running {
+            if cores[who].is_running() {
                 cores[who].picsr |= lines
             }
         },
@@ -68,7 +68,7 @@ const WRONG_LATCHES: [WrongInterrupt; 10] = [
     WrongInterrupt {
         name: "forgets a line that falls",
         latch: |cores, who, lines| {
-            if cores[who].running {
+            if cores[who].is_running() {
                 cores[who].picsr = lines & cores[who].picmr
             }
         },
@@ -77,7 +77,7 @@ const WRONG_LATCHES: [WrongInterrupt; 10] = [
     WrongInterrupt {
         name: "forgets a line that is masked",
         latch: |cores, who, lines| {
-            if cores[who].running {
+            if cores[who].is_running() {
                 cores[who].picsr = (cores[who].picsr | lines) & cores[who].picmr
             }
         },
@@ -266,7 +266,7 @@ const WRONG_OTHERS: [WrongStep; 4] = [
         }
     }),
     wrong("a core that halts loses PICSR", &[Nop], |taken| {
-        if !taken.after.running {
+        if !taken.after.is_running() {
             taken.after.picsr = 0
         }
     }),

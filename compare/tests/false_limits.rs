@@ -10,7 +10,7 @@ use common::wrong_step::{
 use compare::exec;
 use compare::isa;
 use compare::isa::Kind::{self, *};
-use compare::state::{Core, DSX, F};
+use compare::state::{Core, Mode, DSX, F};
 
 const STORES: &[Kind] = &[Swa, Sw, Sb, Sh];
 const LOADS: &[Kind] = &[Lwz, Lws, Lbz, Lbs, Lhz, Lhs];
@@ -228,7 +228,7 @@ const WRONG_CORES: [WrongStep; 16] = [
         core_if_refused(taken, |core, _, _| core.pc = 0x300)
     }),
     wrong("the core halts", STORES, |taken| {
-        core_if_refused(taken, |core, _, _| core.running = false)
+        core_if_refused(taken, |core, _, _| core.mode = Mode::Halted)
     }),
 ];
 

@@ -148,10 +148,10 @@ fn halted_cores_take_no_levels() {
     // An interrupt comes in place of the l.nop 1 that would halt.
     let halt = asm(Kind::Nop, 0, 0, 0, 1);
     let core = core_after(&case(&[halt], &[1]));
-    assert_eq!((core.pc, core.epcr, core.running), (0x800, 0x100, true));
+    assert_eq!((core.pc, core.epcr, core.is_running()), (0x800, 0x100, true));
     let left = run(&case(&[halt], &[0, 1]));
     let core = core_of(&left, 0);
-    assert_eq!((core.pc, core.picsr, core.running), (0x104, 0, false));
+    assert_eq!((core.pc, core.picsr, core.is_running()), (0x104, 0, false));
     assert_eq!(counts(&left), (1, 0, 0));
 }
 

@@ -311,7 +311,7 @@ fn a_program_finds_the_limit() {
         (case.sheets[4], case.limit) = (VALUE, limit);
         let left = run(&case);
         let core = core_of(&left, 0);
-        assert_eq!((core.running, core.regs[3]), (false, limit + 4), "{limit:x}");
+        assert_eq!((core.is_running(), core.regs[3]), (false, limit + 4), "{limit:x}");
         assert_eq!(left.answer.raised, limit / 4);
         assert_eq!(left.case.word(limit as usize / 4), VALUE);
     }

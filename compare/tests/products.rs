@@ -201,7 +201,7 @@ fn range_comes_after_the_writes() {
             assert_eq!((core.delay, core.target), (false, 0));
             assert_eq!((core.link, core.link_address), (false, 0));
             // Exceptions leave the accumulator alone.
-            assert_eq!((core.machi, core.maclo, core.running), (1, 2, true));
+            assert_eq!((core.machi, core.maclo, core.is_running()), (1, 2, true));
         }
     }
 }
@@ -483,5 +483,5 @@ fn the_fast_step_executes_the_entry() {
     table[0x40] = isa::decode(word_of(Kind::Mul, 5, 0));
     let (step, reused) = bench.fast_step(0, &mut table);
     assert_eq!((step.raised, reused), (None, true));
-    assert_eq!((bench.cores[0].regs[5], bench.cores[0].running), (42, true));
+    assert_eq!((bench.cores[0].regs[5], bench.cores[0].is_running()), (42, true));
 }

@@ -105,10 +105,13 @@ const BROKEN: &[Change] = &[
     &[(place::LINK, 0x1_0001)],
     &[(place::LINK_ADDRESS, 4)],
     &[(place::LINK, 1), (place::LINK_ADDRESS, 1)],
-    &[(place::MODE, 1)],
     &[(place::MODE, 2)],
     &[(place::MODE, 4)],
+    &[(place::MODE, 5)],
+    &[(place::MODE, 0x1_0001)],
     &[(place::MODE, 0x1_0003)],
+    &[(place::MODE, 0x8000_0000)],
+    &[(place::MODE, u32::MAX)],
     &[(place::PICMR, 0)],
     &[(place::PICMR, 1)],
     &[(place::PICMR, 2)],
@@ -162,6 +165,39 @@ fn changed(change: Change, refusal: u8) {
             case.sheets[core * SHEET_WORDS + word] = value;
         }
         assert_eq!(refusals(&case), (refusal, refusal), "core {core}: {change:x?}");
+    }
+}
+
+/// 02, note 8: "Mode 1 is allowed for cores 1 to 3", whatever modes the others have;
+/// with core 0 in mode 1 every sheet may be good but its own.
+#[test]
+fn refusal_3_modes() {
+    const MODES: [u32; 6] = [0, 1, 2, 3, 4, 0x101];
+    for cores in 1..=4 {
+        for code in 0..6usize.pow(cores) {
+            let modes: Vec<u32> =
+                (0..cores).map(|core| MODES[code / 6usize.pow(core) % 6]).collect();
+            let mut case = good(cores as usize, 4_096);
+            for (core, &mode) in modes.iter().enumerate() {
+                case.sheets[core * SHEET_WORDS + place::MODE] = mode;
+            }
+            let allowed = |(core, mode): (usize, &u32)| match mode {
+                0 | 3 => true,
+                1 => core != 0,
+                _ => false,
+            };
+            let refusal = if modes.iter().enumerate().all(allowed) { 0 } else { 3 };
+            assert_eq!(refusals(&case), (refusal, refusal), "{modes:?}");
+        }
+    }
+    // A linked core's sheet keeps the other rules.
+    for change in BROKEN.iter().filter(|change| change.iter().all(|(word, _)| *word != place::MODE))
+    {
+        let mut case = good(2, 4_096);
+        let sheet = &mut case.sheets[SHEET_WORDS..];
+        sheet[place::MODE] = 1;
+        change.iter().for_each(|&(word, value)| sheet[word] = value);
+        assert_eq!(refusals(&case), (3, 3), "{change:x?}");
     }
 }
 

@@ -10,7 +10,7 @@ use compare::exec::Cause;
 use compare::isa::{self, Kind};
 use compare::rng::Rng;
 use compare::runs::Answer;
-use compare::state::{place, CY, DSX, F, IEE, OV, OVE, SM, TEE};
+use compare::state::{place, Mode, CY, DSX, F, IEE, OV, OVE, SM, TEE};
 use compare::vectors::OLD;
 
 const SR: u32 = 0x8001;
@@ -220,7 +220,7 @@ fn range_in_a_slot() {
         assert_eq!((core.regs[5], core.delay, core.target), (0x8000_0000, false, 0));
         let carried = if kind == Kind::Sub { CY } else { 0 };
         assert_eq!((core.esr, core.sr), (SR | OVE | OV | carried, SR | OV | DSX | carried));
-        assert_eq!((core.link, core.link_address, core.running), (false, 0, true));
+        assert_eq!((core.link, core.link_address, core.is_running()), (false, 0, true));
     }
 }
 
@@ -388,7 +388,7 @@ fn exceptions_fill_the_registers() {
         assert_eq!((step.raised, step.stored), (Some(cause), None));
         assert_eq!((core.pc, core.epcr, core.eear), (vector, epcr, eear), "{cause:?}");
         assert_eq!((core.esr, core.sr), (all & !SM, SR | F | CY | OV), "{cause:?}");
-        assert_eq!((core.link, core.link_address, core.running), (false, 0, true));
+        assert_eq!((core.link, core.link_address, core.is_running()), (false, 0, true));
     }
 }
 
@@ -573,7 +573,7 @@ fn any_store_clears_links_to_its_word() {
             (Kind::Sb, 0x3f, false),
         ] {
             let mut bench = linked();
-            bench.cores[0].running = who == 0;
+            bench.cores[0].mode = if who == 0 { Mode::Running } else { Mode::Halted };
             bench.run(who, asm(kind, 0, 0, 4, offset));
             assert_eq!(bench.cores[0].link, !clears, "{kind:?} {offset:x} by {who}");
             assert_eq!(bench.cores[0].link_address, if clears { 0 } else { 0x40 });
@@ -676,14 +676,14 @@ fn return_from_exception() {
 fn halting() {
     let mut bench = linked();
     bench.run(0, 0x15ff_0001);
-    assert_eq!((bench.cores[0].pc, bench.cores[0].running), (0x108, false));
+    assert_eq!((bench.cores[0].pc, bench.cores[0].is_running()), (0x108, false));
     assert!(bench.cores[0].link);
     // In a slot it goes to the target first.
     let mut bench = Bench::new(1);
     bench.run(0, asm(Kind::J, 0, 0, 0, 0x40));
     bench.run(0, asm(Kind::Nop, 0, 0, 0, 1));
     let core = &bench.cores[0];
-    assert_eq!((core.pc, core.delay, core.target, core.running), (0x140, false, 0, false));
+    assert_eq!((core.pc, core.delay, core.target, core.is_running()), (0x140, false, 0, false));
 }
 
 #[test]
@@ -709,6 +709,6 @@ fn the_fast_step_executes_the_entry() {
     table[0x40] = isa::decode(0x9c60_0005);
     let (step, reused) = bench.fast_step(0, &mut table);
     assert_eq!((step.raised, reused), (None, true));
-    assert_eq!((bench.cores[0].regs[3], bench.cores[0].running), (5, true));
+    assert_eq!((bench.cores[0].regs[3], bench.cores[0].is_running()), (5, true));
     assert_eq!(table[0x40], isa::decode(0x9c60_0005));
 }

@@ -240,7 +240,8 @@ static void see_halt(const struct fetch *fetch)
     print_instruction(fetch);
 }
 
-/* One entry of the schedule. All lines are low, so that a running core inside memory fetches. */
+/* One entry of the schedule. All lines are low, so that a running core inside memory fetches. Neither a card nor a program has linked cores, so that no
+ * core halts but the entry's. */
 static void run_entry(struct trace *trace, uint8_t core)
 {
     const uint32_t *state = trace->states + core * OR1K_STATE_WORDS;

@@ -111,7 +111,7 @@ fn case(words: &[u32], bytes: usize, cores: usize) -> Case {
     for (index, &word) in words.iter().enumerate() {
         case.set_word(index, word);
     }
-    let part = bytes / 2 / cores;
+    let part = bytes / 8 / cores * 4;
     for (core, sheet) in case.sheets.chunks_mut(SHEET_WORDS).enumerate() {
         let first = (bytes / 2 + core * part) as u32;
         (sheet[1], sheet[2], sheet[3]) = (first, first + part as u32, first);
@@ -149,6 +149,27 @@ fn endless(name: &str, words: &[u32], kib: usize, cores: usize) -> Work {
     assert_eq!(executed, SCHEDULE_MOST, "{name}");
     Work {
         name: name.to_string(),
+        cores,
+        empty,
+        full_cache: left.table,
+        calls: vec![call],
+        unit: Unit::Entries(executed),
+    }
+}
+
+/// The small loop by core 0 and by cores linked to it, each in its own part of
+/// memory; an entry is one fetch, which all of them execute.
+fn linked(followers: usize) -> Work {
+    let cores = followers + 1;
+    let mut empty = case(&small_loop(), 16_384, cores);
+    for sheet in empty.sheets.chunks_mut(SHEET_WORDS).skip(1) {
+        sheet[place::MODE] = 1;
+    }
+    let call = turns(1, SCHEDULE_MOST, 0);
+    let (executed, left) = agreed(&empty, &call);
+    assert_eq!(executed, SCHEDULE_MOST);
+    Work {
+        name: format!("small loop, {followers} linked"),
         cores,
         empty,
         full_cache: left.table,
@@ -253,6 +274,7 @@ fn all_work() -> Vec<Work> {
     work.extend(["sieve", "crc32", "sort"].map(|name| compiled(name, 1)));
     work.extend(CORES.map(|cores| compiled("cores", cores)));
     work.push(interrupted("sieve", INTERRUPT_ONCE_IN));
+    work.extend((1..4).map(linked));
     work.extend([
         single("l.nop only", word(Kind::Nop, 0, 0, 0, 0)),
         single("l.addi only", word(Kind::Addi, 5, 5, 0, 1)),

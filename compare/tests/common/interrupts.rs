@@ -1,12 +1,12 @@
 //! How often entries meet what note 4 of document 02 tells apart.
 
-use super::show;
 use super::watch::Entry;
+use super::{join, show};
 use compare::cases::Case;
 use compare::exec::Cause;
 use compare::isa::Insn;
 use compare::isa::Kind::{self, *};
-use compare::state::{Core, DSX, F, IEE, OVE, SM, TEE};
+use compare::state::{Core, Mode, DSX, F, IEE, OVE, SM, TEE};
 use std::collections::BTreeMap;
 
 const PICMR: u32 = 0x4800;
@@ -45,8 +45,8 @@ pub struct Interrupts {
     otherwise: u32,
 }
 
-/// What is counted, and the least number of it in 20,000 cases of up to 400
-/// entries: about half of what they give.
+/// What is counted, and the least number of it in 31,000 cases of up to 400
+/// entries: about half of what the 20,000 without linked cores give.
 const LEAST: &[(&str, u32)] = &[
     ("halted core, a line high", 30_000),
     ("all lines low, PICSR 0", 1_000_000),
@@ -163,8 +163,9 @@ impl Interrupts {
 
     pub fn note(&mut self, entry: &Entry) {
         let met = Met::of(entry);
-        if !entry.before.running {
-            self.add([("halted core, a line high", met.gained != 0)]);
+        if !entry.before.is_running() {
+            let halted = entry.before.mode == Mode::Halted;
+            self.add([("halted core, a line high", halted && met.gained != 0)]);
             self.otherwise += u32::from(entry.after != entry.before);
             return;
         }
@@ -248,7 +249,7 @@ impl Interrupts {
             ("waits for the end of a slot", waits && before.has(IEE) && before.delay),
             ("waits while another exception is taken", raised),
             ("waits while a slot raises", raised && before.delay && before.has(IEE)),
-            ("waits on a core that halts", waits && !entry.after.running),
+            ("waits on a core that halts", waits && !entry.after.is_running()),
         ]);
     }
 
@@ -315,6 +316,12 @@ impl Interrupts {
             Some(Lwa | Swa) => None,
             _ => past.lost,
         };
+    }
+
+    /// Takes in what others counted.
+    pub fn join(&mut self, other: Interrupts) {
+        join(&mut self.met, other.met);
+        self.otherwise += other.otherwise;
     }
 
     /// Shows the counts. Stops if one is smaller than so many times its least

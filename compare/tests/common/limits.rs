@@ -1,7 +1,7 @@
 //! How often accesses meet what note 5 of document 02 tells apart.
 
-use super::show;
 use super::watch::{Access, Entry};
+use super::{join, show};
 use compare::cases::Case;
 use compare::exec::Cause;
 use compare::isa::Insn;
@@ -57,8 +57,8 @@ const ALL_READ_ONLY: &str = "refused, all of memory read-only";
 const LEAST_LIMIT: &str = "refused at the limit 4";
 const LATCHED: &str = "refused while a line waits";
 
-/// The classes, each with its least number in 20,000 cases of up to 400 entries:
-/// about half of what they give.
+/// The classes, each with its least number in 31,000 cases of up to 400 entries:
+/// about half of what the 20,000 without linked cores give.
 const LEAST: &[(Class, u32)] = &[
     ((Some(Sw), REFUSED), 9_700),
     ((Some(Sw), RIGHT_BELOW), 810),
@@ -222,7 +222,7 @@ impl Limits {
     }
 
     pub fn note(&mut self, entry: &Entry) {
-        let (true, Some(insn)) = (entry.before.running, entry.insn) else {
+        let (true, Some(insn)) = (entry.before.is_running(), entry.insn) else {
             return;
         };
         if entry.raised == Some(Cause::Interrupt) {
@@ -333,6 +333,12 @@ impl Limits {
                 (LATCHED, after.picsr != 0),
             ],
         );
+    }
+
+    /// Takes in what others counted.
+    pub fn join(&mut self, other: Limits) {
+        join(&mut self.met, other.met);
+        self.otherwise += other.otherwise;
     }
 
     /// Shows the counts. Stops if one is smaller than so many times its least

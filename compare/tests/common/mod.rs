@@ -7,6 +7,7 @@ pub mod fields;
 pub mod files;
 pub mod interrupts;
 pub mod limits;
+pub mod linked;
 pub mod list;
 pub mod old_cards;
 pub mod products;
@@ -19,6 +20,7 @@ pub mod sums;
 pub mod vectors;
 pub mod watch;
 pub mod wrong_interrupt;
+pub mod wrong_linked;
 pub mod wrong_lists;
 pub mod wrong_reader;
 pub mod wrong_refusal;
@@ -32,6 +34,7 @@ use compare::isa::{self, Insn, Kind};
 use compare::runs;
 use compare::state::Core;
 use compare::vectors::Vectors;
+use std::collections::BTreeMap;
 use std::io::Write;
 use std::path::{Path, PathBuf};
 
@@ -149,6 +152,13 @@ pub fn stored(folder: &str, extension: &str) -> Vec<PathBuf> {
 /// Not by `eprintln`, which a test that passes does not show.
 pub fn show(text: &str) {
     let _ = writeln!(std::io::stderr(), "{text}");
+}
+
+/// Adds counts to others.
+pub fn join<Class: Ord>(counts: &mut BTreeMap<Class, u32>, others: BTreeMap<Class, u32>) {
+    for (class, more) in others {
+        *counts.entry(class).or_default() += more;
+    }
 }
 
 /// Shows counts, each as its class, the number and its least number. Stops if one is

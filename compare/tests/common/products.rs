@@ -1,7 +1,7 @@
 //! How often the kinds of note 2 of document 02 meet what the note tells apart.
 
-use super::show;
 use super::watch::Seen;
+use super::{join, show};
 use compare::isa::Kind::{self, *};
 use compare::isa::Reg;
 use compare::state::{CY, OV, OVE};
@@ -243,6 +243,12 @@ impl Products {
             seen,
             &[(MACHI_NUMBER, number == 0x2802 && high), (MACLO_NUMBER, number == 0x2801 && low)],
         );
+    }
+
+    /// Takes in what others counted.
+    pub fn join(&mut self, other: Products) {
+        join(&mut self.met, other.met);
+        self.otherwise += other.otherwise;
     }
 
     /// Shows the counts. Stops if one is too small: then the cases would say

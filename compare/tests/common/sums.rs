@@ -1,7 +1,7 @@
 //! How often l.addi and l.addic meet what note 1 of document 02 tells apart.
 
-use super::show;
 use super::watch::Seen;
+use super::{join, show};
 use compare::isa::Kind;
 use compare::state::{OV, OVE};
 use std::collections::BTreeMap;
@@ -32,6 +32,11 @@ impl Sums {
             };
             *self.0.entry(met).or_default() += 1;
         }
+    }
+
+    /// Takes in what others counted.
+    pub fn join(&mut self, other: Sums) {
+        join(&mut self.0, other.0);
     }
 
     fn count(&self, of: impl Fn(&Met) -> bool) -> u32 {

@@ -12,8 +12,8 @@ const CAUSES: [Cause; 7] = [Bus, Alignment, Illegal, Range, Syscall, Trap, Inter
 /// The last address that a vector may have.
 const LAST: u32 = 0xffffc;
 
-/// What is counted of each cause, with the least numbers in 20,000 cases of up to 400
-/// entries: about half of what they give.
+/// What is counted of each cause, with the least numbers in 31,000 cases of up to 400
+/// entries: about half of what the 20,000 without linked cores give.
 const CLASSES: [(&str, [u32; 7]); 13] = [
     ("the old list's", [12_000, 2_700, 2_000, 1_800, 700, 900, 8_300]),
     ("to another vector than the old one", [120_000, 15_000, 14_000, 12_000, 3_300, 6_500, 54_000]),
@@ -81,7 +81,7 @@ impl Exceptions {
     }
 
     pub fn note(&mut self, entry: &Entry) {
-        if !entry.before.running {
+        if !entry.before.is_running() {
             return;
         }
         let before = self.outside[entry.who].take();
@@ -155,6 +155,14 @@ impl Exceptions {
             _ => return,
         };
         self.ways[way] += 1;
+    }
+
+    /// Takes in what others counted.
+    pub fn join(&mut self, other: Exceptions) {
+        let counts = self.met.iter_mut().flatten().chain(&mut self.ways);
+        let others = other.met.iter().flatten().chain(&other.ways);
+        counts.zip(others).for_each(|(count, more)| *count += more);
+        self.otherwise += other.otherwise;
     }
 
     /// Shows the counts. Stops if one is smaller than so many times its least

@@ -2,6 +2,7 @@
 
 use super::interrupts::Interrupts;
 use super::limits::Limits;
+use super::linked::Links;
 use super::products::Products;
 use super::sums::Sums;
 use super::vectors::Exceptions;
@@ -10,7 +11,7 @@ use compare::exec::{self, Board, Cause, Step};
 use compare::isa::Kind::{Cflush, Cinvalidate, Lhs, Lwa, Sh, Swa};
 use compare::isa::{self, Insn};
 use compare::runs;
-use compare::state::{Core, SHEET_WORDS};
+use compare::state::{Core, Mode, SHEET_WORDS};
 use compare::vectors::Vectors;
 
 /// One instruction with its core before and after it.
@@ -36,6 +37,22 @@ pub struct Entry {
     pub raised: Option<Cause>,
     /// What the instruction, if it is fetched, reaches.
     pub access: Option<Access>,
+    /// The word that it wrote.
+    pub stored: Option<u32>,
+    /// The linked cores, whosever entry it is.
+    pub linked: Vec<Linked>,
+    /// What each core's mode was before it.
+    pub modes: [Mode; 4],
+}
+
+/// A linked core before and after an entry.
+pub struct Linked {
+    pub who: usize,
+    pub before: Core,
+    pub after: Core,
+    /// What the entry's instruction reaches on it.
+    pub access: Option<Access>,
+    pub stored: Option<u32>,
 }
 
 /// What a step may change of a word.
@@ -63,7 +80,7 @@ fn goal(core: &Core, insn: Insn) -> Option<u32> {
     access.then(|| core.get(insn.a).wrapping_add(insn.imm))
 }
 
-/// What notes 1, 2, 4, 5 and 6 of document 02 tell apart.
+/// What notes 1, 2, 4, 5, 6 and 8 of document 02 tell apart.
 #[derive(Default)]
 pub struct Counts {
     sums: Sums,
@@ -71,6 +88,7 @@ pub struct Counts {
     interrupts: Interrupts,
     limits: Limits,
     exceptions: Exceptions,
+    links: Links,
 }
 
 /// What a run is on.
@@ -123,14 +141,11 @@ impl Running {
         let same = |(number, core): (usize, &Core)| number != who && core.pc == before.pc;
         let shared = self.cores.iter().enumerate().any(same);
         let held = self.held(before.pc);
-        let goal = insn.and_then(|insn| goal(&before, insn));
-        let found = goal.map(|address| self.word(address));
-        let step = before.running.then(|| self.step(who, lines));
-        let access = goal.zip(found).map(|(address, before)| Access {
-            address,
-            before,
-            after: self.word(address),
-        });
+        let found = self.find(who, insn);
+        let linked: Vec<_> = self.linked(insn).collect();
+        let mut modes = [Mode::Halted; 4];
+        modes.iter_mut().zip(&self.cores).for_each(|(mode, core)| *mode = core.mode);
+        let step = before.is_running().then(|| self.step(who, lines));
         Entry {
             who,
             lines,
@@ -140,9 +155,48 @@ impl Running {
             held,
             shared,
             raised: step.and_then(|step| step.raised),
-            access,
+            access: self.access(found),
+            stored: step.and_then(|step| step.stored),
+            linked: linked.into_iter().map(|then| self.leave(then, step)).collect(),
+            modes,
         }
     }
+
+    /// The address that an instruction reaches on a core, and the word there.
+    fn find(&self, who: usize, insn: Option<Insn>) -> Option<(u32, Word)> {
+        let address = insn.and_then(|insn| goal(&self.cores[who], insn))?;
+        Some((address, self.word(address)))
+    }
+
+    /// The access of which this was found before it.
+    fn access(&self, found: Option<(u32, Word)>) -> Option<Access> {
+        found.map(|(address, before)| Access { address, before, after: self.word(address) })
+    }
+
+    /// The linked cores as they are, and what an instruction reaches on them.
+    fn linked(&self, insn: Option<Insn>) -> impl Iterator<Item = Then> + '_ {
+        let linked = self.cores.iter().enumerate().filter(|(_, core)| core.is_linked());
+        linked.map(move |(who, core)| Then { who, core: *core, found: self.find(who, insn) })
+    }
+
+    /// One of them after the step.
+    fn leave(&self, then: Then, step: Option<Step>) -> Linked {
+        let Then { who, core, found } = then;
+        Linked {
+            who,
+            before: core,
+            after: self.cores[who],
+            access: self.access(found),
+            stored: step.and_then(|step| step.by_linked[who - 1]),
+        }
+    }
+}
+
+/// A linked core before an entry, and what it reaches.
+struct Then {
+    who: usize,
+    core: Core,
+    found: Option<(u32, Word)>,
 }
 
 impl Counts {
@@ -152,13 +206,15 @@ impl Counts {
         self.interrupts.start(case);
         self.limits.start(case);
         self.exceptions.start(case);
+        self.links.start(case);
         for (&who, &lines) in case.schedule.iter().zip(&case.levels) {
             let entry = running.take(usize::from(who), lines);
             self.interrupts.note(&entry);
             self.limits.note(&entry);
             self.exceptions.note(&entry);
+            self.links.note(&entry);
             let Entry { before, after, raised, .. } = entry;
-            let fetched = before.running && raised != Some(Cause::Interrupt);
+            let fetched = before.is_running() && raised != Some(Cause::Interrupt);
             if let Some(insn) = entry.insn.filter(|_| fetched) {
                 let seen = Seen { insn, before, after, raised: raised.is_some() };
                 self.sums.note(&seen);
@@ -167,13 +223,25 @@ impl Counts {
         }
     }
 
+    /// These and others together.
+    pub fn joined(mut self, other: Counts) -> Counts {
+        self.sums.join(other.sums);
+        self.products.join(other.products);
+        self.interrupts.join(other.interrupts);
+        self.limits.join(other.limits);
+        self.exceptions.join(other.exceptions);
+        self.links.join(other.links);
+        self
+    }
+
     /// Shows the counts, and stops if one of a note is too small; those of notes 4
-    /// to 6 are held to so many times their least numbers.
+    /// to 6 and 8 are held to so many times their least numbers.
     pub fn expect(&self, what: &str, of_sums: u32, of_products: u32, times: u32) {
         self.sums.expect(what, of_sums);
         self.products.expect(what, of_products);
         self.interrupts.expect(what, times);
         self.limits.expect(what, times);
         self.exceptions.expect(what, times);
+        self.links.expect(what, times);
     }
 }

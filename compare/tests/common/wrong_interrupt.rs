@@ -36,7 +36,7 @@ pub const RIGHT: WrongInterrupt = WrongInterrupt {
     name: "right",
     place: |entry, _| entry,
     latch: |cores, who, lines| {
-        if cores[who].running {
+        if cores[who].is_running() {
             exec::latch(&mut cores[who], lines)
         }
     },
@@ -102,7 +102,7 @@ impl WrongInterrupt {
     fn entry(&self, running: &mut Running, who: usize, lines: u32) {
         let before = running.cores[who];
         (self.latch)(&mut running.cores, who, lines);
-        if !before.running {
+        if !before.is_running() {
             return;
         }
         let core = running.cores[who];

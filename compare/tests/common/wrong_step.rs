@@ -195,7 +195,7 @@ impl WrongStep {
         let mut cores = read_sheets(sheets);
         for (&entry, &lines) in schedule.iter().zip(levels) {
             let who = usize::from(entry);
-            if cores[who].running {
+            if cores[who].is_running() {
                 let place = (who, lines);
                 let (raised, reused) = self.step(board, &mut cores, place, table.as_deref_mut());
                 answer.executed += 1;

@@ -94,7 +94,7 @@ impl WrongVector {
             answer: Answer::default(),
         };
         for (index, (&who, &lines)) in schedule.iter().zip(levels).enumerate() {
-            if running.cores[usize::from(who)].running {
+            if running.cores[usize::from(who)].is_running() {
                 self.entry(&mut running, usize::from(who), lines, (index, schedule.len()));
             }
         }

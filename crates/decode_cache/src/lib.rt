@@ -70,6 +70,18 @@ pub fn fetch(memory: &[u8], cache: &mut [u64], pc: usize) -> Fetched
     Fetched { entry, reused: 0 }
 }
 
+// The form that a fetch at pc executes, or 0 if the word is outside memory. No entry is filled.
+pub fn peek(memory: &[u8], cache: &[u64], pc: usize) -> u64
+    requires { ⌜ pc < 2 ^ 32 ⌝ }
+    ensures { λ r. ⌜ ((board : Board) → r ≡ fetchAt board (now (memory .entry)) (now (cache .entry)) pc .entry) ⌝ }
+{
+    if pc + 4 > memory.len() {
+        return 0;
+    }
+    let k = pc / 4;
+    form(memory, k, entry_of(cache, k))
+}
+
 // A store empties the entry of the word that it touches.
 pub fn empty_touched(cache: &mut [u64], done: Done)
     ensures { λ _. ⌜ now (cache .exit) ≡ (if done .stored then set (now (cache .entry)) (done .address / 4) 0 else now (cache .entry)) ⌝ }

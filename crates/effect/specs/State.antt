@@ -1,8 +1,8 @@
--- A core's state, document 01's sheet: "What is lent"; document 02, notes 2 and 4.
+-- A core's state, document 01's sheet: "What is lent"; document 02, notes 2, 4 and 8.
 use mathlib.Core.Bool.{Bool, true, _&&_, _||_, not}
 use mathlib.Core.List.{List, [], _∷_}
 use Prim.Native.Nat.{ℕ, _%_}
-use lib.Dec.{eqb, leb}
+use lib.Dec.{eqb, leb, ltb}
 use Rattle.arith.specs.Status.{allowed}
 use Rattle.effect.specs.Board.{Board}
 
@@ -57,6 +57,10 @@ picsrAt = 45
 abbrev pub halted : ℕ
 halted = 0
 
+-- document 02, note 8: "ParaNut mode 1"; no link of l.lwa is meant (linked/specs/Linked)
+abbrev pub linked : ℕ
+linked = 1
+
 abbrev pub running : ℕ
 running = 3
 
@@ -70,13 +74,17 @@ all (b ∷ l) = b && all l
 abbrev pub multiple : ℕ → Bool
 multiple x = eqb (x % 4) 0
 
--- the rules on the state of a core of a board, g being its word at each place, in the paper's order (the same for every core of every board); MACHI,
--- MACLO and PICSR are free
+-- "41: mode, 0 halted or 3 running." Document 02, note 8: "Mode 1 is allowed for cores 1 to 3."
+abbrev pub isMode : ℕ → ℕ → Bool
+isMode core mode = eqb mode halted || (eqb mode running || (eqb mode linked && ltb 0 core))
+
+-- the rules on the state of a core of a board, g being its word at each place, in the paper's order (the same on every board); MACHI, MACLO and PICSR are
+-- free
 abbrev pub rules : Board → ℕ → (ℕ → ℕ) → List Bool
 rules board core g =
     leb (g delayAt) 1 ∷  -- "33: delay, 1 if that instruction is in a delay slot, else 0."
     leb (g linkAt) 1 ∷  -- "39: link, 0 or 1."
-    (eqb (g modeAt) halted || eqb (g modeAt) running) ∷  -- "41: mode, 0 halted or 3 running."
+    isMode core (g modeAt) ∷  -- "41: mode, 0 halted or 3 running." Or 1, of cores 1 to 3
     eqb (g 0) 0 ∷  -- "r0 is 0;
     multiple (g pcAt) ∷  -- PC,
     multiple (g targetAt) ∷  -- target,

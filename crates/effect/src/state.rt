@@ -32,4 +32,6 @@ pub const PICSR: usize = 45;
 // The modes.
 pub const HALTED: u32 = 0;
 
+pub const LINKED: u32 = 1;
+
 pub const RUNNING: u32 = 3;

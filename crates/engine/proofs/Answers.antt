@@ -23,14 +23,17 @@ use Rattle.refusal.specs.Refusal.{maxSchedule, statesObey, scheduleFits, namesC
 use Rattle.refusal.specs.declared.cause.Refusal.{Refusal}
 use Rattle.refusal.proofs.Tests.{from-at, of-from}
 use Rattle.refusal.proofs.Passes.{Passes, CachePasses, plain-passes, fast-then-plain, cache-passes, none-refused, cause-number, cores-fit}
-use Rattle.steps.specs.Plain.{Plain, scheduledBy, plainRun, start}
+use Rattle.steps.specs.Plain.{Plain, scheduledBy}
 use Rattle.steps.specs.Fast.{Fast}
-use Rattle.steps.specs.History.{History, history, entriesFrom}
+use Rattle.steps.specs.History.{History, entriesFrom}
 use Rattle.steps.specs.Counts.{AtMost, noCounts}
-use Rattle.steps.specs.Inner.{fastOf, Runnable, Right, Finished}
+use Rattle.steps.specs.Inner.{fastOf, Runnable, Right}
 use Rattle.steps.specs.declared.counts.Counts.{Counts}
 use Rattle.steps.proofs.Agree.{Agrees}
-use Rattle.steps.proofs.Schedule.{from-agrees, from-uncached, from-accepted, cache-is}
+use Rattle.steps.proofs.Schedule.{cache-is}
+use Rattle.linked.specs.Run.{start, plainRun, history}
+use Rattle.linked.specs.Inner.{Finished}
+use Rattle.linked.proofs.Agree.{from-agrees, from-uncached, from-accepted}
 use Rattle.engine.specs.Answer.{cacheLeft, again, PlainAnswer, FastAnswer}
 use Rattle.engine.specs.declared.answer.Answer.the-variants.{Ran, Refused}
 

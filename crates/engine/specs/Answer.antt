@@ -7,9 +7,10 @@ use Rattle.bits.specs.Choice.{if_then_else_}
 use Rattle.refusal.specs.Lent.{Lent, Left, boardOf}
 use Rattle.refusal.specs.Refusal.{maxSchedule, plainRefusal, fastRefusal, refusalNumber}
 use Rattle.steps.specs.Counts.{noCounts, AtMost}
-use Rattle.steps.specs.Plain.{plainRun, start, plainOf}
-use Rattle.steps.specs.History.{history, entriesFrom}
+use Rattle.steps.specs.Plain.{plainOf}
+use Rattle.steps.specs.History.{entriesFrom}
 use Rattle.steps.specs.declared.counts.Counts.{Counts}
+use Rattle.linked.specs.Run.{start, plainRun, history}
 use Rattle.engine.specs.declared.answer.Answer.{Answer}
 use Rattle.engine.specs.declared.answer.Answer.the-variants.{Ran, Refused}
 
@@ -55,7 +56,8 @@ again l x = record { memory = x .memory; states = x .states; schedule = []; leve
 -- document 01's history says, and the table is accepted again with that memory and those sheets." ("accepted again: the memory, sheets and
 -- table left meet none that concerns them") Document 02, note 2: "A run through the table matches the plain one over all 88 kinds."
 -- Note 4: "Two runs compared for the table get the same levels"; note 5: "Plain and table runs are compared at one and the same limit"; of the vectors, document
--- 01: "both runs get equal memory, sheets and schedule, and the same of anything else that both take"
+-- 01: "both runs get equal memory, sheets and schedule, and the same of anything else that both take". Note 8: "plain and table runs stay indistinguishable with
+-- links allowed" (links: cores in mode 1)
 pub record FastAnswer (l : Lent) (cache : List ℕ) (x : Left) (cache′ : List ℕ) (r : Answer) : Type 0 where
   pub refusal : number r ≡ fastRefusal l cache
   pub left : plainOf x (countsOf r) ≡ unlessRefused (fastRefusal l cache) (plainRun l) (start l)

@@ -18,7 +18,7 @@ pub fn fast_run(
 {
     let verdict = refusal::check_fast(memory, states, schedule, levels, limit, vectors, cache);
     match verdict {
-        Verdict::Accepted => Answer::Ran(steps::run(
+        Verdict::Accepted => Answer::Ran(linked::run(
             memory,
             states,
             schedule,

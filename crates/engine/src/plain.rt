@@ -19,7 +19,7 @@ pub fn plain_run(
     match verdict {
         Verdict::Accepted => {
             let mut none = [0u64; 0];
-            Answer::Ran(steps::run(memory, states, schedule, levels, limit, vectors, &mut none))
+            Answer::Ran(linked::run(memory, states, schedule, levels, limit, vectors, &mut none))
         }
         Verdict::Refused(cause) => Answer::Refused(cause),
     }

@@ -1,15 +1,15 @@
 -- A run's test of a core's state says that the state obeys the rules, and only then passes. Assumes nothing.
-use mathlib.Core.Bool.{Bool, true, false, _||_, not}
+use mathlib.Core.Bool.{Bool, true, false, _&&_, _||_, not}
 use mathlib.Core.List.{List, [], _∷_}
 use mathlib.Core.Path.{_≡_, refl, sym, subst}
 use Prim.Native.Nat.{ℕ}
-use lib.Dec.{T, eqb, eqb→eq, leb→le, le→leb}
+use lib.Dec.{T, eqb, ltb, eqb→eq, leb→le, le→leb, ltb→lt, lt→ltb}
 use borrow.Author.Tests.{eq-eqb, eqb-true}
 use Rattle.bits.proofs.Tests.{and-left, and-right, and-both, T-of, Each}
-use Rattle.effect.specs.State.{halted, running, all, rules}
+use Rattle.effect.specs.State.{halted, linked, running, isMode, all, rules}
 use Rattle.effect.specs.Board.{Board}
 use Rattle.commit.specs.Commit.{wordAt}
-use Rattle.lawful.specs.Inner.{Mode, is-halted, is-running}
+use Rattle.lawful.specs.Inner.{is-halted, is-running, Mode, own, is-linked}
 use Rattle.lawful.specs.Accepted.{accepted, Accepted}
 
 each-of : (l : List Bool) → T (all l) → Each l
@@ -34,17 +34,20 @@ zero-when m n f = go (eqb m 0) refl
     go true e = same n 0 (f (eqb-true m 0 e))
     go false e = tt
 
-mode-of : (m : ℕ) → T (eqb m halted || eqb m running) → Mode m
-mode-of m t = go (eqb m halted) refl (eqb m running) refl t
-  where
-    go : (a : Bool) → eqb m halted ≡ a → (b : Bool) → eqb m running ≡ b → T (a || b) → Mode m
-    go true e b f u = subst Mode (sym (eqb-true m halted e)) is-halted
-    go false e true f u = subst Mode (sym (eqb-true m running f)) is-running
-    go false e false f u = absurd u
+module _ (core : ℕ) where
+  mode-of : (m : ℕ) → T (isMode core m) → Mode core m
+  mode-of m t = go (eqb m halted) refl (eqb m running) refl (eqb m linked) refl t
+    where
+      go : (a : Bool) → eqb m halted ≡ a → (b : Bool) → eqb m running ≡ b → (d : Bool) → eqb m linked ≡ d → T (a || (b || (d && ltb 0 core))) → Mode core m
+      go true e b f d g u = subst (Mode core) (sym (eqb-true m halted e)) (own is-halted)
+      go false e true f d g u = subst (Mode core) (sym (eqb-true m running f)) (own is-running)
+      go false e false f true g u = subst (Mode core) (sym (eqb-true m linked g)) (is-linked (ltb→lt 0 core u))
+      go false e false f false g u = absurd u
 
-of-mode : {m : ℕ} → Mode m → T (eqb m halted || eqb m running)
-of-mode is-halted = tt
-of-mode is-running = tt
+  of-mode : {m : ℕ} → Mode core m → T (isMode core m)
+  of-mode (own is-halted) = tt
+  of-mode (own is-running) = tt
+  of-mode (is-linked h) = lt→ltb 0 core h
 
 module _ (board : Board) (s : List ℕ) (core : ℕ) where
   pub accepted-means : T (accepted board s core) → Accepted board s core
@@ -68,7 +71,7 @@ module _ (board : Board) (s : List ℕ) (core : ℕ) where
         sr-lawful = eqb→eq _ _ (h .1 .1 .1 .1 .1 .1 .1 .1 .1 .1 .0);
         epcr-lawful = eqb→eq _ 0 (h .1 .1 .1 .1 .1 .1 .0);
         esr-lawful = eqb→eq _ _ (h .1 .1 .1 .1 .1 .1 .1 .1 .1 .1 .1 .0);
-        mode-lawful = mode-of _ (h .1 .1 .0);
+        mode-lawful = mode-of core _ (h .1 .1 .0);
         mask-lawful = eqb→eq _ 3 (h .1 .1 .1 .1 .1 .1 .1 .1 .1 .1 .1 .1 .0);
       }
 
@@ -82,7 +85,7 @@ module _ (board : Board) (s : List ℕ) (core : ℕ) where
         (
           le→leb _ 1 (l .held-bit),
           (
-            of-mode (a .mode-lawful),
+            of-mode core (a .mode-lawful),
             (
               same _ 0 (a .zero-register),
               (

@@ -22,7 +22,7 @@ use Rattle.effect.specs.declared.types.Outcome.{Outcome}
 use Rattle.effect.specs.declared.types.Outcome.the-variants.{Completed, Raised}
 use Rattle.effect.specs.declared.types.Effect.{Effect}
 use Rattle.commit.specs.Commit.{wordAt, put, putValue, putFlow, putStatus, putAccumulated, putException, ownState}
-use Rattle.lawful.specs.Inner.{Status, Multiple, LawfulVectors, Mask, LawfulState, LawfulWord, to-register, to-epcr, to-eear, to-esr, to-machi, to-maclo, to-picmr, to-picsr, LawfulOutcome, completes, raised, Lawful}
+use Rattle.lawful.specs.Inner.{Status, Multiple, LawfulVectors, Mask, own, LawfulState, LawfulWord, to-register, to-epcr, to-eear, to-esr, to-machi, to-maclo, to-picmr, to-picsr, LawfulOutcome, completes, raised, Lawful}
 use Rattle.lawful.specs.Accepted.{Accepted}
 
 -- ---- several words put into one core's state: pairs of a place and a word
@@ -76,16 +76,16 @@ exceptional vectors Completed = []
 exceptional vectors (Raised x) = (pcAt, vector vectors (x .cause)) ∷ (epcrAt, x .epcr) ∷ (eearAt, x .eear) ∷ (esrAt, x .esr) ∷ []
 
 -- what an effect puts there, after its value
-abbrev changes : List ℕ → Effect → Accumulated → Outcome → List (ℕ × ℕ)
+abbrev pub changes : List ℕ → Effect → Accumulated → Outcome → List (ℕ × ℕ)
 changes vectors e a o = always e (accumulations a (exceptional vectors o))
 
-changes-inside : (vectors : List ℕ) (e : Effect) (a : Accumulated) (o : Outcome) → T (inside (changes vectors e a o))
+pub changes-inside : (vectors : List ℕ) (e : Effect) (a : Accumulated) (o : Outcome) → T (inside (changes vectors e a o))
 changes-inside vectors e Kept Completed = tt
 changes-inside vectors e Kept (Raised x) = tt
 changes-inside vectors e (Became m) Completed = tt
 changes-inside vectors e (Became m) (Raised x) = tt
 
-own-puts : (vectors s : List ℕ) (core : ℕ) (e : Effect) → ownState vectors s core e ≡ puts (changes vectors e (e .accumulated) (e .outcome)) (putValue s core e) core
+pub own-puts : (vectors s : List ℕ) (core : ℕ) (e : Effect) → ownState vectors s core e ≡ puts (changes vectors e (e .accumulated) (e .outcome)) (putValue s core e) core
 unfolding ownState putStatus putFlow putAccumulated putException
 own-puts vectors s core e = go (e .accumulated) (e .outcome)
   where
@@ -117,7 +117,7 @@ unseen (Became m) l j d t = ap (seen l j) kept
     kept : (if eqb macloAt j then m .low else if eqb machiAt j then m .high else d) ≡ d
     kept = rw (low, high)
 
-length-value : (s : List ℕ) (core : ℕ) (e : Effect) → length (putValue s core e) ≡ length s
+pub length-value : (s : List ℕ) (core : ℕ) (e : Effect) → length (putValue s core e) ≡ length s
 unfolding putValue
 length-value s core e = if-both (λ (t : List ℕ). length t ≡ length s) (eqb (e .place) 0) refl (simp length-set)
 
@@ -244,7 +244,7 @@ module _ {board : Board} (s : List ℕ) (core : ℕ) (fits : core * stateWords +
         sr-lawful = l .sr-lawful;
         epcr-lawful = v .epcr-kept;
         esr-lawful = v .esr-kept;
-        mode-lawful = l .mode-lawful;
+        mode-lawful = own (l .mode-lawful);
         mask-lawful = v .mask-kept;
       }
   changed vectors multiple e l (raised {x} m q) t v =
@@ -260,7 +260,7 @@ module _ {board : Board} (s : List ℕ) (core : ℕ) (fits : core * stateWords +
         sr-lawful = l .sr-lawful;
         epcr-lawful = m;
         esr-lawful = q;
-        mode-lawful = l .mode-lawful;
+        mode-lawful = own (l .mode-lawful);
         mask-lawful = v .mask-kept;
       }
 

@@ -35,7 +35,7 @@ use Rattle.effect.specs.declared.types.Store.{Store}
 use Rattle.effect.specs.declared.types.Accumulated.{Accumulated}
 use Rattle.action.specs.Operations.{nop, setsFlag, syscall, flags, resultOrRaises, divides, jump, branch, registerJump, returns, load, loadLinked, linked, store, storeConditional, touch, setsSpecialRegister}
 use Rattle.semantics.specs.Meaning.{meaning}
-use Rattle.lawful.specs.Inner.{Status, Multiple, Mask, LawfulFlow, LawfulLink, Mode, is-halted, is-running, LawfulInputs, LawfulWord, to-register, to-epcr, to-eear, to-esr, to-machi, to-maclo, to-picmr, to-picsr, completes, raised, Lawful}
+use Rattle.lawful.specs.Inner.{Status, Multiple, Mask, LawfulFlow, LawfulLink, OwnMode, is-halted, is-running, LawfulInputs, LawfulWord, to-register, to-epcr, to-eear, to-esr, to-machi, to-maclo, to-picmr, to-picsr, completes, raised, Lawful}
 use Rattle.lawful.proofs.Reaches.{reaches-law}
 use Rattle.lawful.proofs.Table.{meaning-has}
 
@@ -64,7 +64,7 @@ no-link-lawful = record { held-bit = omega arith; address-multiple = refl; no-ad
 
 -- a completed instruction
 completed-lawful : {picsr place v sr mode : ℕ} {flow : Flow} {link : Link} {a : Accumulated} {store : Store} → LawfulWord picsr place v → Status sr → LawfulFlow flow
-    → LawfulLink link → Mode mode → Lawful picsr (completing place v sr flow link mode a store)
+    → LawfulLink link → OwnMode mode → Lawful picsr (completing place v sr flow link mode a store)
 completed-lawful w s f l m =
     record { word-lawful = w; flow-lawful = f; link-lawful = l; sr-lawful = s; mode-lawful = m; outcome-lawful = completes }
 

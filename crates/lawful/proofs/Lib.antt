@@ -10,3 +10,4 @@ pub mod Links
 pub mod States
 pub mod Instruction
 pub mod Limit
+pub mod Raised

@@ -1,4 +1,4 @@
--- The states that a run accepts: each core's obeys the rules of document 01's "What is lent" and of document 02, note 4.
+-- The states that a run accepts: each core's obeys the rules of document 01's "What is lent" and of document 02, notes 4 and 8.
 use mathlib.Core.Bool.{Bool}
 use mathlib.Core.List.{List}
 use Prim.Native.Nat.{ℕ, _<_}

@@ -8,7 +8,7 @@ use Rattle.isa.specs.Vectors.{vector}
 use Rattle.isa.specs.declared.vectors.Cause.{Cause}
 use Rattle.arith.specs.Status.{allowed}
 use Rattle.memory.specs.Memory.{Width}
-use Rattle.effect.specs.State.{stateWords, pcAt, delayAt, targetAt, srAt, epcrAt, eearAt, esrAt, linkAt, linkAddressAt, modeAt, machiAt, macloAt, picmrAt, picsrAt, halted, running}
+use Rattle.effect.specs.State.{stateWords, pcAt, delayAt, targetAt, srAt, epcrAt, eearAt, esrAt, linkAt, linkAddressAt, modeAt, machiAt, macloAt, picmrAt, picsrAt, halted, linked, running}
 use Rattle.effect.specs.declared.types.Inputs.{Inputs}
 use Rattle.effect.specs.Board.{Board}
 use Rattle.effect.specs.declared.types.Flow.{Flow}
@@ -48,10 +48,15 @@ pub record LawfulLink (l : Link) : Type 0 where
 abbrev pub Mask : ℕ → Type 0
 Mask x = x % 4 ≡ 3
 
--- "41: mode, 0 halted or 3 running."
-pub data Mode : ℕ → Type 0 where
-  is-halted : Mode halted
-  is-running : Mode running
+-- the mode that an instruction leaves its core in: "41: mode, 0 halted or 3 running."
+pub data OwnMode : ℕ → Type 0 where
+  is-halted : OwnMode halted
+  is-running : OwnMode running
+
+-- a core's mode: one of these, or document 02, note 8: "Mode 1 is allowed for cores 1 to 3."
+pub data Mode (core : ℕ) : ℕ → Type 0 where
+  own : {m : ℕ} → OwnMode m → Mode core m
+  is-linked : 0 < core → Mode core linked
 
 -- the whole state of a core of a board, g being its word at each place. "r0 is 0"
 pub record LawfulState (board : Board) (core : ℕ) (g : ℕ → ℕ) : Type 0 where
@@ -61,7 +66,7 @@ pub record LawfulState (board : Board) (core : ℕ) (g : ℕ → ℕ) : Type 0 w
   pub sr-lawful : Status (g srAt)
   pub epcr-lawful : Multiple (g epcrAt)
   pub esr-lawful : Status (g esrAt)
-  pub mode-lawful : Mode (g modeAt)
+  pub mode-lawful : Mode core (g modeAt)
   pub mask-lawful : Mask (g picmrAt)
 
 -- what an instruction reads obeys the rules, and its destination is a register
@@ -95,7 +100,7 @@ pub record Lawful (picsr : ℕ) (e : Effect) : Type 0 where
   pub flow-lawful : LawfulFlow (e .flow)
   pub link-lawful : LawfulLink (e .link)
   pub sr-lawful : Status (e .sr)
-  pub mode-lawful : Mode (e .mode)
+  pub mode-lawful : OwnMode (e .mode)
   pub outcome-lawful : LawfulOutcome (e .outcome)
 
 -- ---- what an effect may write to, whatever its core's state: a word of that state, and bytes in one word of memory

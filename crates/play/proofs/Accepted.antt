@@ -13,7 +13,7 @@ use Rattle.arith.specs.Status.{allowed, only}
 use Rattle.effect.specs.State.{stateWords, pcAt, delayAt, targetAt, srAt, epcrAt, esrAt, linkAt, linkAddressAt, modeAt, picmrAt}
 use Rattle.effect.specs.Board.{Board}
 use Rattle.commit.specs.Commit.{wordAt, coreCount}
-use Rattle.lawful.specs.Inner.{Mode, is-running}
+use Rattle.lawful.specs.Inner.{Mode, own, is-running}
 use Rattle.lawful.specs.Accepted.{accepted}
 use Rattle.lawful.proofs.Accepted.{means-accepted}
 use Rattle.refusal.specs.Lent.{boardOf}
@@ -62,7 +62,7 @@ module _ (entry sr n : ℕ) (h : entry % 4 ≡ 0) (g : allowed sr ≡ sr) where
         sr-lawful = subst (λ (x : ℕ). allowed x ≡ x) (sym status) g;
         epcr-lawful = ap (λ (x : ℕ). x % 4) epcr;
         esr-lawful = subst (λ (x : ℕ). allowed x ≡ x) (sym esr) allowed-reset;
-        mode-lawful = subst Mode (sym mode) is-running;
+        mode-lawful = subst (Mode core) (sym mode) (own is-running);
         mask-lawful = ap (λ (x : ℕ). x % 4) picmr;
       })
 

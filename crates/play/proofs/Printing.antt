@@ -12,8 +12,8 @@ use Rattle.refusal.specs.Lent.{Lent, Left}
 use Rattle.refusal.specs.Refusal.{fastRefusal}
 use Rattle.refusal.specs.declared.cause.Refusal.{Refusal}
 use Rattle.refusal.proofs.Passes.{cause-number}
-use Rattle.steps.specs.Plain.{Plain, plainRun, plainOf}
-use Rattle.steps.specs.History.{history}
+use Rattle.steps.specs.Plain.{Plain, plainOf}
+use Rattle.linked.specs.Run.{plainRun, history}
 use Rattle.steps.specs.declared.counts.Counts.{Counts}
 use Rattle.engine.specs.Answer.{number, countsOf, FastAnswer}
 use Rattle.engine.specs.declared.answer.Answer.{Answer}

@@ -4,8 +4,7 @@ use mathlib.Core.List.{List}
 use Prim.Native.Nat.{ℕ, _/_}
 use lib.ListN.{replicate}
 use Rattle.refusal.specs.Lent.{Lent, lent}
-use Rattle.steps.specs.Plain.{plainRun}
-use Rattle.steps.specs.History.{history}
+use Rattle.linked.specs.Run.{plainRun, history}
 use Rattle.steps.specs.declared.counts.Counts.{Counts}
 use Rattle.card.specs.Card.{Job, Verdict, good, refused, cardSays}
 use Rattle.vectors_file.specs.File.{File, vectorsSay}

@@ -4,14 +4,10 @@ use mathlib.Core.List.{List, [], _∷_}
 use Prim.Native.Nat.{ℕ}
 use lib.Dec.{eqb, ltb}
 use Rattle.bits.specs.Choice.{if_then_else_}
-use Rattle.effect.specs.State.{halted, running}
 
--- two of the rules on a state
+-- one of the rules on a state
 abbrev pub unsetIsZero : ℕ → ℕ → Bool
 unsetIsZero flag value = not (eqb flag 0) || eqb value 0
-
-abbrev pub isMode : ℕ → Bool
-isMode mode = eqb mode halted || eqb mode running
 
 -- the greatest of m and a list's elements
 unfoldable pub greatest : ℕ → List ℕ → ℕ

@@ -1,5 +1,5 @@
--- What a run refuses (the paper's "turned back"): document 01, "What is lent" and "Turned back"; document 02, notes 4 to 6. The rules on a list of vectors
--- stand in vector_list/specs/Rules.
+-- What a run refuses (the paper's "turned back"): document 01, "What is lent" and "Turned back"; document 02, notes 4 to 6 and 8. The rules on a list of
+-- vectors stand in vector_list/specs/Rules.
 use mathlib.Core.Bool.{Bool, true, _&&_, _||_}
 use mathlib.Core.List.{List, [], _∷_, _++_}
 use Prim.Native.Nat.{ℕ, _+_, _/_, _%_}

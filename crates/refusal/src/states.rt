@@ -2,13 +2,13 @@
 ghost use mathlib.Core.Path.{_≡_};
 ghost use Prim.Native.Nat.{ℕ, _+_, _*_, _≤_};
 ghost use lib.ListN.{length, drop};
-ghost use Rattle.effect.specs.State.{stateWords, all, rules};
+ghost use Rattle.effect.specs.State.{stateWords, isMode, all, rules};
 ghost use Rattle.effect.specs.Board.{Board};
 ghost use Rattle.commit.specs.Commit.{coreCount};
 ghost use Rattle.commit.specs.Inner.{ownWord};
 ghost use Rattle.lawful.specs.Accepted.{accepted};
 ghost use Rattle.refusal.specs.Refusal.{statesObey};
-ghost use Rattle.refusal.specs.Inner.{unsetIsZero, isMode};
+ghost use Rattle.refusal.specs.Inner.{unsetIsZero};
 use effect::state;
 
 // A target without delay, and a link address without link, are 0.
@@ -21,13 +21,20 @@ fn unset_is_zero(flag: u32, value: u32) -> bool
     true
 }
 
-fn is_mode(mode: u32) -> bool
-    ensures { λ r. ⌜ r ≡ isMode mode ⌝ }
+// A core is halted or running; or linked, if it is not core 0.
+fn is_mode(core: usize, mode: u32) -> bool
+    ensures { λ r. ⌜ r ≡ isMode core mode ⌝ }
 {
-    if mode == 0 {
+    if mode == state::HALTED {
         return true;
     }
-    mode == 3
+    if mode == state::RUNNING {
+        return true;
+    }
+    if mode == state::LINKED {
+        return 0 < core;
+    }
+    false
 }
 
 // The rules on SR, ESR and PICMR, the last three.
@@ -72,9 +79,9 @@ fn addresses_obey(own: &[u32]) -> bool
 }
 
 // All the rules on a state.
-fn state_obeys(own: &[u32]) -> bool
+fn state_obeys(own: &[u32], core: usize) -> bool
     requires { ⌜ stateWords ≤ length (now own) ⌝ }
-    ensures { λ r. ⌜ ((board : Board) (core : ℕ) → r ≡ all (rules board core (ownWord (now (own .entry))))) ⌝ }
+    ensures { λ r. ⌜ ((board : Board) → r ≡ all (rules board core (ownWord (now (own .entry))))) ⌝ }
 {
     if 1 < own[state::DELAY] {
         return false;
@@ -82,7 +89,7 @@ fn state_obeys(own: &[u32]) -> bool
     if 1 < own[state::LINK] {
         return false;
     }
-    if is_mode(own[state::MODE]) {
+    if is_mode(core, own[state::MODE]) {
         if own[0] == 0 {
             return addresses_obey(own);
         }
@@ -96,7 +103,7 @@ fn state_accepted(states: &[u32], core: usize) -> bool
 {
     let base = core * state::STATE_WORDS;
     let end = base + state::STATE_WORDS;
-    state_obeys(&states[base..end])
+    state_obeys(&states[base..end], core)
 }
 
 pub fn states_accepted(states: &[u32]) -> bool

@@ -46,7 +46,7 @@ unfolding cachedAtFirst
 length-cached [] = refl
 length-cached (x ∷ c) = ap suc (length-cached c)
 
-cached-emptied : (e : Effect) (c : List ℕ) → cachedAtFirst (emptied e c) ≡ emptied e (cachedAtFirst c)
+pub cached-emptied : (e : Effect) (c : List ℕ) → cachedAtFirst (emptied e c) ≡ emptied e (cachedAtFirst c)
 unfolding emptied
 cached-emptied e c = go (writesMemory e)
   where
@@ -57,7 +57,7 @@ cached-emptied e c = go (writesMemory e)
 -- ---- every filled entry stays its word's form
 
 -- a filled entry or a decoded word: the same
-cached-form : (board : Board) (mem c : List ℕ) (k : ℕ) → Right board c mem → cachedForm board mem c k ≡ formAt board mem k
+pub cached-form : (board : Board) (mem c : List ℕ) (k : ℕ) → Right board c mem → cachedForm board mem c k ≡ formAt board mem k
 cached-form board mem c k r =
     by-equality (getD c k 0) 0 (λ q. rw (eq-eqb _ _ q)) (λ q. rw (ne-eqb _ _ q) (r k (filled-inside c k q) q))
 
@@ -93,7 +93,7 @@ right-touched board mem c e sound r j i q = by-equality j (touched e) same other
         let o : getD (set c (touched e) 0) j 0 ≡ getD c j 0 = getD-set-other c (touched e) j 0 0 n in
         o ∙ r j l (λ z. q (o ∙ z)) ∙ ap decode (sym (other-words-kept board mem e sound j n))
 
-right-emptied : (board : Board) (mem c : List ℕ) (e : Effect) → Sound board (length mem) e → Right board c mem
+pub right-emptied : (board : Board) (mem c : List ℕ) (e : Effect) → Sound board (length mem) e → Right board c mem
     → Right board (emptied e c) (memoryAfter mem e)
 unfolding emptied
 right-emptied board mem c e sound r = go (writesMemory e) refl

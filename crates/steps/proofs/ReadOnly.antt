@@ -1,6 +1,6 @@
--- What a refused store leaves of the decode cache, and that no run writes below the limit: document 02, note 5. Assumes nothing.
-use mathlib.Core.List.{List, [], _∷_}
-use mathlib.Core.Path.{_≡_, refl, ap, _∙_}
+-- What a refused store leaves of the decode cache, and that no entry writes below the limit: document 02, note 5. Assumes nothing.
+use mathlib.Core.List.{List}
+use mathlib.Core.Path.{_≡_, refl, ap}
 use Prim.Native.Nat.{ℕ, _<_}
 use lib.ListN.{getD}
 use Rattle.bits.proofs.Cases.{if-both}
@@ -14,7 +14,7 @@ use Rattle.decode_cache.specs.Cache.{formAt}
 use Rattle.semantics.specs.Meaning.{effectOf}
 use Rattle.lawful.proofs.Instruction.{effect-sound, no-store-kept, read-only-kept}
 use Rattle.pic.specs.Interrupt.{latched}
-use Rattle.steps.specs.Plain.{Plain, isRunning, fetched, isFetch, unfetched, plainEffect, plainAfter, plainEntry, plainStep, plainFrom}
+use Rattle.steps.specs.Plain.{Plain, isRunning, fetched, isFetch, unfetched, plainEffect, plainAfter, plainEntry, plainStep}
 use Rattle.steps.specs.Fast.{emptied}
 use Rattle.steps.specs.declared.Scheduled.{Scheduled}
 use Rattle.steps.proofs.Agree.{unfetched-stores}
@@ -33,13 +33,8 @@ module _ (board : Board) (j : ℕ) (h : j < board .limit) where
       (read-only-kept board mem (effectOf board mem s core entry) (effect-sound board mem s core entry) j h)
       (ap (λ (m : List ℕ). getD m j 0) (no-store-kept mem (unfetched s core) (unfetched-stores s core)))
 
-  step-keeps : (p : Plain) (entry : Scheduled) → getD (plainStep board p entry .memory) j 0 ≡ getD (p .memory) j 0
+  pub step-keeps : (p : Plain) (entry : Scheduled) → getD (plainStep board p entry .memory) j 0 ≡ getD (p .memory) j 0
   unfolding plainStep plainEntry plainAfter
   step-keeps p entry =
       if-both (λ (q : Plain). getD (q .memory) j 0 ≡ getD (p .memory) j 0) (isRunning (p .states) (entry .core))
       (effect-keeps (p .memory) (latched (p .states) (entry .core) (entry .lines)) (entry .core)) refl
-
-  pub from-keeps : (entries : List Scheduled) (p : Plain) → getD (plainFrom board entries p .memory) j 0 ≡ getD (p .memory) j 0
-  unfolding plainFrom
-  from-keeps [] p = refl
-  from-keeps (entry ∷ more) p = from-keeps more (plainStep board p entry) ∙ step-keeps p entry

@@ -1,68 +1,65 @@
--- A whole schedule, entry by entry. Assumes nothing.
-use mathlib.Core.Bool.{Bool, true, false}
+-- What an entry keeps, and a schedule entry by entry. Assumes nothing.
+use mathlib.Core.Bool.{Bool, true, false, not, and-false}
 use mathlib.Core.List.{List, [], _∷_}
-use mathlib.Core.Path.{_≡_, refl, sym, ap, _∙_}
+use mathlib.Core.Path.{_≡_, refl, sym, ap, subst, _∙_}
 use Prim.Native.Nat.{ℕ, zero, suc, _+_, _<_, _≤_}
-use native.Mathlib.Nat.{le-refl}
+use native.Mathlib.Nat.{le-refl, zero-add}
 use native.Mathlib.Numerals.{add-one}
 use native.Mathlib.Omega.{arith}
 use lib.ListN.{length, getD, drop, drop-of-length-le}
 use lib.Seq.{drop-cons, ext-getD}
-use lib.Dec.{eqb}
+use lib.Dec.{T, eqb}
 use borrow.Author.Tests.{eq-eqb, ne-eqb}
 use Rattle.bits.specs.Choice.{if_then_else_}
-use Rattle.bits.proofs.Cases.{if-both, by-equality}
+use Rattle.bits.proofs.Cases.{if-law, if-both, by-equality}
+use Rattle.bits.proofs.Tests.{and-right, T-of}
 use Rattle.isa.specs.declared.vectors.Cause.the-variants.{Bus, Interrupt}
+use Rattle.isa.specs.InstructionSet.{decode}
 use Rattle.memory.specs.Memory.{memoryWord}
-use Rattle.effect.specs.State.{pcAt, eearAt, picsrAt}
+use Rattle.effect.specs.State.{pcAt, eearAt, modeAt, picsrAt, linked}
 use Rattle.effect.specs.Board.{Board}
 use Rattle.effect.specs.declared.types.Effect.{Effect}
-use Rattle.commit.specs.Commit.{wordAt, coreCount, inputs, noFields, writesMemory, statesAfter}
+use Rattle.commit.specs.Commit.{wordAt, coreCount, inputs, noFields, writesMemory, statesAfter, raisedBy}
 use Rattle.decode_cache.specs.Cache.{formAt}
+use Rattle.decode_cache.proofs.Forms.{decode-filled}
+use Rattle.semantics.specs.Meaning.{effectOf}
 use Rattle.lawful.specs.Inner.{LawfulVectors, Lawful}
 use Rattle.lawful.specs.Accepted.{AllAccepted}
 use Rattle.lawful.proofs.Lawful.{faults-lawful}
 use Rattle.lawful.proofs.States.{length-states, states-accepted, states-picsr}
-use Rattle.lawful.proofs.Instruction.{inputs-lawful, decoded-lawful}
+use Rattle.lawful.proofs.Instruction.{inputs-lawful, decoded-lawful, effect-sound}
 use Rattle.pic.specs.Interrupt.{latched, isInterrupted}
 use Rattle.pic.specs.Inner.{NoneLatched}
 use Rattle.pic.proofs.Latched.{length-latched, latched-accepted, latch-low}
-use Rattle.steps.specs.Plain.{Plain, scheduled, isRunning, latching, fetched, isFetch, unfetched, plainEffect, plainAfter, plainEntry, plainStep, plainFrom}
-use Rattle.steps.specs.Fast.{Fast, emptied, fastFetch, fastUnfetched, fastEntry, fastStep, fastFrom}
-use Rattle.steps.specs.History.{cachedAtFirst, historyFrom, entriesFrom}
-use Rattle.steps.specs.Inner.{Right, historyOf}
+use Rattle.refusal.specs.Lent.{Lent, lent, boardOf}
+use Rattle.steps.specs.Plain.{Plain, scheduled, isRunning, latching, fetched, isFetch, unfetched, plainEffect, plainAfter, plainEntry, plainStep}
+use Rattle.steps.specs.Fast.{Fast, emptied, fastFetch, fastUnfetched, fastEntry, fastStep}
+use Rattle.steps.specs.History.{cachedAtFirst, entriesFrom}
+use Rattle.steps.specs.Inner.{fastOf, IsForm, isGiven, fastForm, givenStep, givenFrom, Right, Finished, FormExecuted}
+use Rattle.steps.specs.Counts.{noCounts}
+use Rattle.steps.specs.declared.counts.Counts.{Counts}
 use Rattle.steps.specs.declared.Scheduled.{Scheduled}
-use Rattle.steps.proofs.Agree.{Agrees, step-agrees, cached-at, length-cached}
+use Rattle.steps.proofs.Agree.{step-agrees, right-emptied, cached-at, length-cached}
 
 -- ---- the entry i of a schedule
 
-module _ (board : Board) (schedule levels : List ℕ) (i : ℕ) (x : Fast) where
+module _ (board : Board) (form : ℕ) (schedule levels : List ℕ) (i : ℕ) (x : Fast) where
   pub from-next : {core : ℕ} → core ≡ getD schedule i 0 → i < length schedule → i < length levels
-      → fastFrom board (scheduled (drop i schedule) (drop i levels)) x
-      ≡ fastFrom board (scheduled (drop (i + 1) schedule) (drop (i + 1) levels)) (fastStep board x (record { core = core; lines = getD levels i 0 }))
-  unfolding fastFrom scheduled
+      → givenFrom board form (scheduled (drop i schedule) (drop i levels)) x
+      ≡ givenFrom board form (scheduled (drop (i + 1) schedule) (drop (i + 1) levels)) (givenStep board form x (record { core = core; lines = getD levels i 0 }))
+  unfolding givenFrom scheduled
   from-next e h g = rw (e, add-one, drop-cons schedule i 0 h, drop-cons levels i 0 g)
 
-  pub from-end : length schedule ≤ i → fastFrom board (scheduled (drop i schedule) (drop i levels)) x ≡ x
-  unfolding fastFrom scheduled
+  pub from-end : length schedule ≤ i → givenFrom board form (scheduled (drop i schedule) (drop i levels)) x ≡ x
+  unfolding givenFrom scheduled
   from-end h = rw (drop-of-length-le schedule h)
-
--- ---- both runs agree
-
-pub from-agrees : (board : Board) (entries : List Scheduled) (x : Fast) → Right board (x .cache) (x .plain .memory)
-    → Agrees board (fastFrom board entries x) (plainFrom board entries (x .plain)) (historyFrom board entries (x .plain) (historyOf x))
-unfolding fastFrom plainFrom historyFrom
-from-agrees board [] x r = record { same-plain = refl; same-history = refl; right-again = r }
-from-agrees board (entry ∷ more) x r =
-    let s = step-agrees board x entry r in
-    rw (← s .same-plain, ← s .same-history) (from-agrees board more (fastStep board x entry) (s .right-again))
 
 -- ---- with an empty cache it is the plain run, and nothing is reused
 
 abbrev uncached : Plain → ℕ → Fast
 uncached p n = record { plain = p; cache = []; reused = n }
 
-none-emptied : (e : Effect) → emptied e [] ≡ []
+pub none-emptied : (e : Effect) → emptied e [] ≡ []
 unfolding emptied
 none-emptied e = if-both (λ (l : List ℕ). l ≡ []) (writesMemory e) refl refl
 
@@ -76,7 +73,7 @@ module _ (board : Board) (p : Plain) (n : ℕ) where
   entry-uncached : (core : ℕ) → fastEntry board (uncached p n) core ≡ uncached (plainEntry board p core) n
   entry-uncached core = by-fetch core (isFetch (p .memory) (p .states) core) refl
 
-step-uncached : (board : Board) (p : Plain) (entry : Scheduled) (n : ℕ) → fastStep board (uncached p n) entry ≡ uncached (plainStep board p entry) n
+pub step-uncached : (board : Board) (p : Plain) (entry : Scheduled) (n : ℕ) → fastStep board (uncached p n) entry ≡ uncached (plainStep board p entry) n
 unfolding fastStep plainStep
 step-uncached board p entry n = go (isRunning (p .states) (entry .core))
   where
@@ -84,12 +81,6 @@ step-uncached board p entry n = go (isRunning (p .states) (entry .core))
         ≡ uncached (if b then plainEntry board (latching p entry) (entry .core) else p) n
     go true = entry-uncached board (latching p entry) n (entry .core)
     go false = refl
-
-pub from-uncached : (board : Board) (entries : List Scheduled) (p : Plain) (n : ℕ)
-    → fastFrom board entries (uncached p n) ≡ uncached (plainFrom board entries p) n
-unfolding fastFrom plainFrom
-from-uncached board [] p n = refl
-from-uncached board (entry ∷ more) p n = rw (step-uncached board p entry n) (from-uncached board more (plainStep board p entry) n)
 
 -- ---- accepted states stay accepted
 
@@ -124,23 +115,12 @@ step-kept board v x entry h a r q =
     let s = step-agrees board x entry r in
     rw (q, s .same-plain) (step-accepted board v (x .plain) entry h a, rw (s .same-plain) at (s .right-again))
 
-step-length : (board : Board) (p : Plain) (entry : Scheduled) → length (plainStep board p entry .states) ≡ length (p .states)
+pub step-length : (board : Board) (p : Plain) (entry : Scheduled) → length (plainStep board p entry .states) ≡ length (p .states)
 unfolding plainStep plainEntry plainAfter
 step-length board p entry =
     let t = latched (p .states) (entry .core) (entry .lines) in
     if-both (λ (q : Plain). length (q .states) ≡ length (p .states)) (isRunning (p .states) (entry .core))
     (length-states (board .vectors) t (entry .core) (plainEffect board (p .memory) t (entry .core)) ∙ length-latched (p .states) (entry .core) (entry .lines)) refl
-
-pub from-accepted : (board : Board) → LawfulVectors (board .vectors) → (schedule levels : List ℕ) (p : Plain)
-    → ((i : ℕ) → i < length schedule → getD schedule i 0 < coreCount (p .states)) → AllAccepted board (p .states)
-    → AllAccepted board (plainFrom board (scheduled schedule levels) p .states)
-unfolding plainFrom scheduled
-from-accepted board v [] levels p n a = a
-from-accepted board v (core ∷ schedule) [] p n a = a
-from-accepted board v (core ∷ schedule) (lines ∷ levels) p n a =
-    let entry : Scheduled = record { core = core; lines = lines } in
-    from-accepted board v schedule levels (plainStep board p entry) (λ i h. rw (step-length board p entry) (n (suc i) (omega arith)))
-    (step-accepted board v p entry (n 0 (omega arith)) a)
 
 -- ---- with all lines low nothing is latched anew
 
@@ -166,6 +146,76 @@ none-latched-kept board x entry z h a r n q =
     let l : length (plainStep board (x .plain) entry .states) ≡ length (x .plain .states) = step-length board (x .plain) entry in
     let j : c < coreCount (x .plain .states) = omega arith in
     omega (arith, step-picsr board (x .plain) entry z h a c j, n c j))
+
+-- ---- the same of an entry whose core is given a form, if it is linked
+
+none-given : (s : List ℕ) (core : ℕ) → isGiven s core 0 ≡ false
+none-given s core = and-false (eqb (wordAt s core modeAt) linked)
+
+pub given-none : (board : Board) (x : Fast) (entry : Scheduled) → givenStep board 0 x entry ≡ fastStep board x entry
+unfolding givenStep
+given-none board x entry = rw (none-given (x .plain .states) (entry .core))
+
+is-form : (s : List ℕ) (core : ℕ) {form : ℕ} → ((form ≡ 0 → ⊥) → IsForm form) → isGiven s core form ≡ true → IsForm form
+is-form s core {form} f g =
+    f (λ z. let t : T (not (eqb form 0)) = and-right (eqb (wordAt s core modeAt) linked) (not (eqb form 0)) (T-of _ g) in rw (eq-eqb form 0 z) at t)
+
+module _ (board : Board) (form : ℕ) (x : Fast) (core : ℕ) (h : core < coreCount (x .plain .states)) (a : AllAccepted board (x .plain .states)) (f : IsForm form) where
+  form-lawful : Lawful (wordAt (x .plain .states) core picsrAt) (effectOf board (x .plain .memory) (x .plain .states) core form)
+  form-lawful = rw (f .decodes) (decoded-lawful board (x .plain .memory) (x .plain .states) core (f .word) (a core h))
+
+  form-accepted : LawfulVectors (board .vectors) → AllAccepted board (fastForm board x core form .plain .states)
+  unfolding fastForm plainAfter
+  form-accepted v = states-accepted (board .vectors) (x .plain .states) core (effectOf board (x .plain .memory) (x .plain .states) core form) v form-lawful h a
+
+  form-right : Right board (x .cache) (x .plain .memory) → Right board (fastForm board x core form .cache) (fastForm board x core form .plain .memory)
+  unfolding fastForm plainAfter
+  form-right r =
+      right-emptied board (x .plain .memory) (x .cache) (effectOf board (x .plain .memory) (x .plain .states) core form)
+      (effect-sound board (x .plain .memory) (x .plain .states) core form) r
+
+  form-latched : NoneLatched (x .plain .states) → NoneLatched (fastForm board x core form .plain .states)
+  unfolding fastForm plainAfter
+  form-latched n c i =
+      let e = effectOf board (x .plain .memory) (x .plain .states) core form in
+      let l : length (statesAfter (board .vectors) (x .plain .states) core e) ≡ length (x .plain .states) = length-states (board .vectors) (x .plain .states) core e in
+      let j : c < coreCount (x .plain .states) = omega arith in
+      omega (arith, states-picsr (board .vectors) (x .plain .states) core e form-lawful h c j, n c j)
+
+module _ (board : Board) (form : ℕ) (x : Fast) (entry : Scheduled) (h : entry .core < coreCount (x .plain .states)) (a : AllAccepted board (x .plain .states))
+    (r : Right board (x .cache) (x .plain .memory)) (f : (form ≡ 0 → ⊥) → IsForm form) {y : Fast} (q : y ≡ givenStep board form x entry) where
+  by-given : (P : Fast → Type 0) → (IsForm form → P (fastForm board x (entry .core) form)) → P (fastStep board x entry) → P y
+  unfolding givenStep
+  by-given P it none =
+      subst P (sym q) (if-law P (isGiven (x .plain .states) (entry .core) form) (λ g. it (is-form (x .plain .states) (entry .core) f g)) (λ _. none))
+
+  pub given-kept : LawfulVectors (board .vectors) → AllAccepted board (y .plain .states) × Right board (y .cache) (y .plain .memory)
+  given-kept v =
+      by-given (λ (z : Fast). AllAccepted board (z .plain .states) × Right board (z .cache) (z .plain .memory))
+      (λ g. (form-accepted board form x (entry .core) h a g v, form-right board form x (entry .core) h a g r))
+      (step-kept board v x entry h a r refl)
+
+  pub given-latched : entry .lines ≡ 0 → NoneLatched (x .plain .states) → NoneLatched (y .plain .states)
+  given-latched z n =
+      by-given (λ (w : Fast). NoneLatched (w .plain .states)) (λ g. form-latched board form x (entry .core) h a g n)
+      (none-latched-kept board x entry z h a r n refl)
+
+-- a linked core alone
+module _ (mem s : List ℕ) (limit : ℕ) (vectors cache : List ℕ) (core form : ℕ) where
+  abbrev alone : Lent
+  alone = lent mem s (core ∷ []) (0 ∷ []) limit vectors
+
+  pub form-executed : wordAt s core modeAt ≡ linked → IsForm form → {mem′ s′ cache′ : List ℕ} {n : Counts} → Finished alone form cache mem′ s′ cache′ n → FormExecuted alone cache core form mem′ s′ cache′ (eqb (n .raised) 0)
+  unfolding givenFrom givenStep scheduled fastForm plainAfter
+  form-executed m f {mem′} {s′} {cache′} {n} e =
+      let some : eqb form 0 ≡ false = rw (f .decodes) (ne-eqb (decode (f .word)) 0 (decode-filled (f .word))) in
+      let q : fastOf mem′ s′ cache′ n ≡ fastForm (boardOf alone) (fastOf mem s cache noCounts) core form = e .left ∙ rw (eq-eqb (wordAt s core modeAt) linked m, some) in
+      record {
+        memory = ap (λ (x : Fast). x .plain .memory) q;
+        states = ap (λ (x : Fast). x .plain .states) q;
+        cache-left = ap (λ (x : Fast). x .cache) q;
+        completed = ap (λ (x : Fast). eqb (x .plain .raised) 0) q ∙ ap (λ (k : ℕ). eqb k 0) (zero-add (raisedBy (effectOf (boardOf alone) mem s core form .outcome)));
+      }
 
 -- ---- the cache that a fast run leaves
 

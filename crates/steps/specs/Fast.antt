@@ -1,6 +1,7 @@
--- The fast run's entries: document 01, "Fast run"; document 02, notes 4 and 6. They are defined for every decode cache (the paper's table): also where an entry is not its
--- word's form, which refusal 7 keeps out of runs, and for an empty cache, with which they are the plain run's.
-use mathlib.Core.List.{List, [], _∷_}
+-- An entry of the fast run, for its own core (linked cores: linked/specs/Run): document 01, "Fast run"; document 02, notes 4 and 6. It is defined for every
+-- decode cache (the paper's table): also where an entry is not its word's form, which refusal 7 keeps out of runs, and for an empty cache, with which it is the
+-- plain run's.
+use mathlib.Core.List.{List}
 use Prim.Native.Nat.{ℕ, _+_}
 use lib.ListN.{getD, set}
 use Rattle.bits.specs.Choice.{if_then_else_}
@@ -70,8 +71,3 @@ abbrev pub countsAfter : Counts → Turn → Counts
 countsAfter n Idle = n
 countsAfter n (Unfetched o) = record { executed = n .executed + 1; raised = n .raised + raisedBy o; reused = n .reused }
 countsAfter n (Instruction o u) = record { executed = n .executed + 1; raised = n .raised + raisedBy o; reused = n .reused + u }
-
--- "The schedule's entries go in order, each on what the last left."
-unfoldable pub fastFrom : Board → List Scheduled → Fast → Fast
-fastFrom board [] x = x
-fastFrom board (entry ∷ more) x = fastFrom board more (fastStep board x entry)

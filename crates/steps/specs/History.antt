@@ -1,5 +1,5 @@
--- The history of the plain run, for the decode cache (the paper's table) lent to the fast one: document 01, "History"; document 02, note 4. Cached is the paper's
--- held.
+-- The history of the plain run, for the decode cache (the paper's table) lent to the fast one, what an entry adds for its own core (linked cores:
+-- linked/specs/Run): document 01, "History"; document 02, note 4. Cached is the paper's held.
 use mathlib.Core.List.{List, [], _∷_}
 use Prim.Native.Nat.{ℕ, _+_}
 use lib.Dec.{eqb}
@@ -7,8 +7,7 @@ use lib.ListN.{getD, set}
 use Rattle.bits.specs.Choice.{if_then_else_}
 use Rattle.effect.specs.Board.{Board}
 use Rattle.decode_cache.specs.Cache.{formAt, filled}
-use Rattle.refusal.specs.Lent.{Lent, boardOf}
-use Rattle.steps.specs.Plain.{Plain, scheduledBy, isRunning, latching, fetched, isFetch, plainEffect, plainStep, start}
+use Rattle.steps.specs.Plain.{Plain, isRunning, latching, fetched, isFetch, plainEffect}
 use Rattle.steps.specs.Fast.{emptied}
 use Rattle.steps.specs.declared.Scheduled.{Scheduled}
 
@@ -35,13 +34,6 @@ historyEntry board p h core = if isFetch (p .memory) (p .states) core then histo
 
 unfoldable pub historyStep : Board → Plain → History → Scheduled → History
 historyStep board p h entry = if isRunning (p .states) (entry .core) then historyEntry board (latching p entry) h (entry .core) else h
-
-unfoldable pub historyFrom : Board → List Scheduled → Plain → History → History
-historyFrom board [] p h = h
-historyFrom board (entry ∷ more) p h = historyFrom board more (plainStep board p entry) (historyStep board p h entry)
-
-unfoldable pub history : Lent → List ℕ → History
-history l cache = historyFrom (boardOf l) (scheduledBy l) (start l) (record { cached = cachedAtFirst cache; reused = 0 })
 
 -- "After the fast run a held word's entry is the form of what memory now holds there, any other 0": the entries of the words from k on
 unfoldable pub entriesFrom : Board → ℕ → List ℕ → List ℕ → List ℕ

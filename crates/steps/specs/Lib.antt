@@ -1,4 +1,4 @@
--- Both runs, entry by entry: Counts; Plain; Fast, which builds on it; History. Inner serves the code and the proofs.
+-- An entry of both runs, for its own core: Counts; Plain; Fast, which builds on it; History. Inner serves the code and the proofs.
 pub mod Counts
 pub mod Plain
 pub mod Fast

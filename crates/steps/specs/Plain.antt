@@ -1,4 +1,4 @@
--- The plain run: document 01, "Plain run"; document 02, notes 4 to 6.
+-- An entry of the plain run, for its own core: document 01, "Plain run"; document 02, notes 4 to 6. The whole run, linked cores included, is linked/specs/Run.
 use mathlib.Core.Bool.{Bool, _&&_, not}
 use mathlib.Core.List.{List, [], _∷_}
 use Prim.Native.Nat.{ℕ, _+_, _/_}
@@ -12,7 +12,7 @@ use Rattle.commit.specs.Commit.{wordAt, fetchFault, statesAfter, memoryAfter, r
 use Rattle.decode_cache.specs.Cache.{formAt}
 use Rattle.semantics.specs.Meaning.{effectOf}
 use Rattle.pic.specs.Interrupt.{latched, isInterrupted, interruption}
-use Rattle.refusal.specs.Lent.{Lent, Left, boardOf}
+use Rattle.refusal.specs.Lent.{Lent, Left}
 use Rattle.steps.specs.declared.Scheduled.{Scheduled}
 use Rattle.steps.specs.declared.counts.Counts.{Counts}
 
@@ -36,7 +36,7 @@ scheduledBy l = scheduled (l .schedule) (l .levels)
 
 -- ---- an entry
 
--- "If its core is not in mode 3"
+-- "If its core is not in mode 3": halted, or linked (document 02, note 8: "a linked core's own entry does nothing", so that its lines are not latched either)
 abbrev pub isRunning : List ℕ → ℕ → Bool
 isRunning s core = eqb (wordAt s core modeAt) running
 
@@ -88,19 +88,6 @@ plainEntry board p core = plainAfter board p core (plainEffect board (p .memory)
 -- "If its core is not in mode 3, an entry changes nothing."
 unfoldable pub plainStep : Board → Plain → Scheduled → Plain
 plainStep board p entry = if isRunning (p .states) (entry .core) then plainEntry board (latching p entry) (entry .core) else p
-
--- "The schedule's entries go in order, each on what the last left." "An empty schedule changes nothing."
-unfoldable pub plainFrom : Board → List Scheduled → Plain → Plain
-plainFrom board [] p = p
-plainFrom board (entry ∷ more) p = plainFrom board more (plainStep board p entry)
-
--- "its counts start at 0"
-abbrev pub start : Lent → Plain
-start l = record { memory = l .memory; states = l .states; executed = 0; raised = 0 }
-
--- "it takes memory, sheets and schedule" and, beside these, the levels, the limit and the vectors
-unfoldable pub plainRun : Lent → Plain
-plainRun l = plainFrom (boardOf l) (scheduledBy l) (start l)
 
 -- memory and states that are left, with the counts of executed and raised
 abbrev pub plainOf : Left → Counts → Plain

@@ -1,8 +1,9 @@
-use mathlib.Core.Path.{sym, ap, subst}
+use mathlib.Core.Path.{sym, ap, subst, _∙_}
 use mathlib.Core.List.{List}
 use Prim.Native.Nat.{ℕ, _/_}
 use native.Mathlib.Omega.{arith}
 use denote.Ref.{now}
+use Rattle.bits.proofs.Cases.{by-equality}
 use Rattle.effect.specs.Board.{boardWith}
 use Rattle.decode_cache.specs.declared.Fetched.{Fetched}
 use Rattle.decode_cache.proofs.Fetches.{found-inside, found-outside}
@@ -10,7 +11,7 @@ use Rattle.semantics.specs.Meaning.{effectOf}
 use Rattle.exec.proofs.Executes.{executed-as}
 use Rattle.steps.specs.declared.Turn.the-variants.{Unfetched}
 use Rattle.steps.specs.Inner.{Entered}
-use Rattle.steps.proofs.Cases.{entered-outside, entered-inside}
+use Rattle.steps.proofs.Cases.{taken-fetched, taken-given, entered-outside, entered-inside, entered-fetched, entered-given}
 use borrow.Author.Needs.{needs}
 use Rattle.steps.proofs.instruction.Statement.{statement}
 use Rattle.steps.proofs.instruction.Tie as tie
@@ -30,8 +31,8 @@ slice-read-of-u32 c = search needs
 of-u32-requires : tie.Need-of-u32-requires
 of-u32-requires c κs = search needs
 
-fetch-requires : tie.Need-fetch-requires
-fetch-requires c κs = search needs
+next-requires : tie.Need-next-requires
+next-requires c κs = search needs
 
 fetch-fault-requires : tie.Need-fetch-fault-requires
 fetch-fault-requires c κs = search needs
@@ -51,13 +52,19 @@ returns c =
     let b = boardWith (a .board) (now (a .vectors)) in
     let p = c .before .before .before .before .before .before .before .before .before .before .before .before .before .before .before .before .before .pre in
     let pc = c .before .before .before .before .before .before .before .before .before .before .before .of-u32 in
-    let fetch = c .before .before .before .before .before .before .before .before .fetch .ensures b in
-    let out = found-outside b (now (a .memory)) (now (a .cache)) (pc .result) (fetch .0) (fetch .1) (c .before .before .before .before .if1 .taken) in
+    let next = c .before .before .before .before .before .before .before .before .next .ensures b in
+    let none = c .before .before .before .before .if1 .taken in
     let fault = c .before .before .fetch-fault in
     let mem = now (a .memory) in
-    let left : List ℕ → Type 0 = λ (l : List ℕ). Entered b mem (now (a .states)) (now (a .cache)) (a .core) mem (fault .last .1 .0) l (Unfetched (fault .result)) in
-    subst left (sym (out .cache))
-    (entered-outside b mem (now (a .states)) (now (a .cache)) (a .core) (p .1 .1 .0) (omega (arith, out .outside, pc .ensures .0)) (fault .ensures mem))
+    let left : List ℕ → Type 0 = λ (l : List ℕ). Entered b mem (now (a .states)) (now (a .cache)) (a .core) 0 mem (fault .last .1 .0) l (Unfetched (fault .result)) in
+    by-equality (a .form) 0
+    (λ z.
+    let fetch = taken-fetched b mem (now (a .cache)) (pc .result) next z in
+    let out = found-outside b mem (now (a .cache)) (pc .result) (fetch .0) (fetch .1) none in
+    entered-fetched b mem (now (a .states)) (now (a .cache)) (a .core) z
+    (subst left (sym (out .cache))
+    (entered-outside b mem (now (a .states)) (now (a .cache)) (a .core) (p .1 .1 .0 z) (omega (arith, out .outside, pc .ensures .0)) (fault .ensures mem))))
+    (λ n. absurd (n (sym (ap (λ (f : Fetched). f .entry) (taken-given b mem (now (a .cache)) (pc .result) next n .0)) ∙ none)))
 
 execute-requires : tie.Need-execute-requires
 execute-requires c κs = search needs
@@ -81,15 +88,27 @@ returns-2 c =
     let b = boardWith (a .board) (now (a .vectors)) in
     let p = t .before .before .before .before .before .before .before .before .before .pre in
     let pc = t .before .before .before .of-u32 in
-    let fetch = t .fetch .ensures b in
+    let next = t .next .ensures b in
+    let some = c .before .before .before .before .before .before .before .before .before .before .before .if1 .left in
     let mem = now (a .memory) in
+    let s = now (a .states) in
     let cache = now (a .cache) in
-    let in-memory = found-inside b mem cache (pc .result) (fetch .0) (fetch .1) (c .before .before .before .before .before .before .before .before .before .before .before .if1 .left) in
+    let executed = c .before .before .before .before .before .before .before .before .execute .ensures in
+    let emptied = c .before .before .empty-touched .ensures in
+    by-equality (a .form) 0
+    (λ z.
+    let fetch = taken-fetched b mem cache (pc .result) next z in
+    let in-memory = found-inside b mem cache (pc .result) (fetch .0) (fetch .1) some in
     let entry = ap (λ (f : Fetched). f .entry) (in-memory .found) in
-    let e = executed-as (ap (effectOf b mem (now (a .states)) (a .core)) entry) (c .before .before .before .before .before .before .before .before .execute .ensures) in
+    let e = executed-as (ap (effectOf b mem s (a .core)) entry) executed in
     let k = ap (λ (p : ℕ). p / 4) (pc .ensures .0) in
-    entered-inside b mem (now (a .states)) cache (a .core) _ k (p .1 .1 .0) (omega (arith, in-memory .inside, pc .ensures .0)) (in-memory .cache) e
-    (c .before .before .empty-touched .ensures) (ap (λ (f : Fetched). f .reused) (in-memory .found))
+    entered-fetched b mem s cache (a .core) z
+    (entered-inside b mem s cache (a .core) _ k (p .1 .1 .0 z) (omega (arith, in-memory .inside, pc .ensures .0)) (in-memory .cache) e emptied (ap (λ (f : Fetched). f .reused) (in-memory .found))))
+    (λ n.
+    let given = taken-given b mem cache (pc .result) next n in
+    let entry = ap (λ (f : Fetched). f .entry) (given .0) in
+    let e = executed-as (ap (effectOf b mem s (a .core)) entry) executed in
+    entered-given b mem s cache (a .core) (a .form) n e (rw (given .1) at emptied) (ap (λ (f : Fetched). f .reused) (given .0)))
 
 pub instruction-spec : {M : Type 1} → statement M
 instruction-spec =
@@ -100,7 +119,7 @@ instruction-spec =
     mul-of-u32
     slice-read-of-u32
     of-u32-requires
-    fetch-requires
+    next-requires
     fetch-fault-requires
     same-length
     same-length-2

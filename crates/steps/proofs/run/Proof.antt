@@ -1,167 +1,22 @@
-use mathlib.Core.Bool.{true}
-use mathlib.Core.Path.{_≡_, refl, sym, ap, subst, _∙_}
-use Prim.Native.Nat.{_-_, _<_, _≤_}
-use native.Mathlib.Omega.{arith}
-use lib.ListN.{length, drop}
-use Rattle.commit.specs.Commit.{coreCount}
-use Rattle.lawful.specs.Accepted.{AllAccepted}
-use Rattle.pic.specs.Inner.{isQuiet, NoneLatched}
-use Rattle.pic.proofs.Silent.{quiet-latched, quiet-low}
-use Rattle.refusal.specs.Lent.{lent, boardOf}
-use Rattle.steps.specs.Plain.{scheduled}
-use Rattle.steps.specs.Fast.{fastFrom}
-use Rattle.steps.specs.Counts.{noCounts, AtMost}
-use Rattle.steps.specs.Inner.{fastOf, ReusedOnce, Right}
-use Rattle.steps.proofs.Cases.{turn-once, grown, straight-undisturbed}
-use Rattle.steps.proofs.Schedule.{from-next, from-end, step-kept, none-latched-kept}
+use mathlib.Core.Path.{refl}
 use borrow.Author.Needs.{needs}
 use Rattle.steps.proofs.run.Statement.{statement}
 use Rattle.steps.proofs.run.Tie as tie
 
-abbrev Inv-loop : tie.InvT-loop
-Inv-loop memory₀ states₀ schedule levels limit vectors cache₀ cores board straight counts₀ i₀ memory states cache counts i =
-    let board = boardOf (lent memory₀ states₀ schedule levels limit vectors) in
-    (fastFrom board (scheduled (drop i schedule) (drop i levels)) (fastOf memory states cache counts)
-    ≡ fastFrom board (scheduled schedule levels) (fastOf memory₀ states₀ cache₀ noCounts))
-    × AtMost i counts
-    × (i ≤ length schedule)
-    × (length memory ≡ length memory₀)
-    × (length states ≡ length states₀)
-    × (length cache ≡ length cache₀)
-    × AllAccepted board states
-    × Right board cache memory
-    × (isQuiet states₀ levels ≡ true → NoneLatched states)
+entries-requires : tie.Need-entries-requires
+entries-requires c κs = (c .before .before .before .before .before .before .before .before .before .pre, λ n. absurd (n refl))
 
-abbrev μ-loop : tie.MeasureT-loop
-μ-loop memory₀ states₀ schedule levels limit vectors cache₀ cores board straight counts₀ i₀ memory states cache counts i = length schedule - i
+same-length : tie.Need-same-length
+same-length c = search needs
 
-cast-t16 : tie.Need-cast-t16 Inv-loop μ-loop
-cast-t16 c = search needs
+same-length-2 : tie.Need-same-length-2
+same-length-2 c = search needs
 
-straight-mode-requires : tie.Need-straight-mode-requires Inv-loop μ-loop
-straight-mode-requires c κs = search needs
+same-length-3 : tie.Need-same-length-3
+same-length-3 c = search needs
 
-loop-holds : tie.Need-loop-holds Inv-loop μ-loop
-loop-holds c =
-    let p = c .before .before .before .before .before .before .before .before .pre in (
-      refl,
-      record { executed-le = omega arith; raised-le = omega arith; reused-le = omega arith },
-      omega arith,
-      refl,
-      refl,
-      refl,
-      p .accepted,
-      p .right,
-      quiet-latched _ _,
-    )
-
-shared-slice-read-of-u8 : tie.Need-shared-slice-read-of-u8 Inv-loop μ-loop
-shared-slice-read-of-u8 c = search needs
-
-of-u8-requires : tie.Need-of-u8-requires Inv-loop μ-loop
-of-u8-requires c κs = search needs
-
-mul-t23 : tie.Need-mul-t23 Inv-loop μ-loop
-mul-t23 c = search needs
-
-shared-slice-read-t25 : tie.Need-shared-slice-read-t25 Inv-loop μ-loop
-shared-slice-read-t25 c = search needs
-
-step-requires : tie.Need-step-requires Inv-loop μ-loop
-step-requires c κs =
-    let p = c .before .before .before .before .before .before .before .before .before .before .before .before .before .before .before .before .pre in
-    let l = c .before .before .before .before .before .before .before .loop in
-    let n = p .names-cores (l .i) (c .before .before .before .before .before .before .loop-test .taken) in
-    let core = c .before .before .before .before .of-u8 in
-    let h : core .result < coreCount (l .states) = omega (arith, n, core .ensures, l .inv .4) in
-    let accepted = l .inv .6 (core .result) h in
-    let straight = c .before .before .before .before .before .before .before .before .straight-mode .ensures in (
-      omega arith,
-      (
-        omega arith,
-        (
-          omega (arith, p .backed, l .inv .3, l .inv .5),
-          (
-            accepted .flow-lawful .pc-multiple,
-            ((λ q. straight-undisturbed _ _ _ _ (l .i) refl (accepted .mode-lawful) (λ z. l .inv .8 z (core .result) h) (q ∙ straight)), p .seven-vectors),
-          ),
-        ),
-      ),
-    )
-
-counted-requires : tie.Need-counted-requires Inv-loop μ-loop
-counted-requires c κs =
-    let step = c .before .before .before .before .before .before .step in
-    let once = turn-once _ _ _ _ _ in
-    (record { executed-le = omega arith; raised-le = omega arith; reused-le = omega arith }, subst ReusedOnce (sym (step .ensures .turn)) once)
-
-add-i : tie.Need-add-i Inv-loop μ-loop
-add-i c = search needs
-
-loop-less : tie.Need-loop-less Inv-loop μ-loop
-loop-less c = search needs
-
-loop-again : tie.Need-loop-again Inv-loop μ-loop
-loop-again c =
-    let loop-test = c .before .before .before .before .before .before .before .before .before .before .before .before .before .before .loop-test in
-    let l = c .before .before .before .before .before .before .before .before .before .before .before .before .before .before .before .loop in
-    let p = c .before .before .before .before .before .before .before .before .before .before .before .before .before .before .before .before .before .before .before .before .before .before .before .before .pre in
-    let core = c .before .before .before .before .before .before .before .before .before .before .before .before .of-u8 in
-    let f = c .before .before .before .before .before .before .before .step in
-    let q = c .counted .ensures in
-    let n = p .names-cores (l .i) (loop-test .taken) in
-    let h : core .result < coreCount (l .states) = omega (arith, n, core .ensures, l .inv .4) in
-    let e = ap (fastOf _ _ _) (q .0) ∙ f .ensures .left (l .counts) in
-    let kept = step-kept _ (p .vectors-lawful) _ _ h (l .inv .6) (l .inv .7) e in (
-      ap (fastFrom _ _) e
-          ∙ sym (from-next _ _ _ (l .i) _ (core .ensures) (loop-test .taken) (omega (arith, loop-test .taken, p .levels-fit)))
-          ∙ l .inv .0,
-      grown (l .i) (l .inv .1) (q .1),
-      omega arith,
-      f .kept .1 .1 .0 ∙ l .inv .3,
-      f .kept .1 .1 .1 .0 ∙ l .inv .4,
-      f .kept .1 .1 .1 .1 .0 ∙ l .inv .5,
-      kept .0,
-      kept .1,
-      λ z. none-latched-kept _ _ _ (quiet-low _ _ z (l .i)) h (l .inv .6) (l .inv .7) (l .inv .8 z) e,
-    )
-
-same-length : tie.Need-same-length Inv-loop μ-loop
-same-length c = c .before .loop .inv .3
-
-same-length-2 : tie.Need-same-length-2 Inv-loop μ-loop
-same-length-2 c = c .before .loop .inv .4
-
-same-length-3 : tie.Need-same-length-3 Inv-loop μ-loop
-same-length-3 c = c .before .loop .inv .5
-
-returns : tie.Need-returns Inv-loop μ-loop
-returns c =
-    let l = c .before .loop in
-    record {
-      left = sym (from-end _ _ _ (l .i) _ (c .loop-test .left)) ∙ l .inv .0;
-      small = record { executed-le = omega arith; raised-le = omega arith; reused-le = omega arith };
-    }
+returns : tie.Need-returns
+returns c = search needs
 
 pub run-spec : {M : Type 1} → statement M
-run-spec =
-    tie.close
-    (tie.spec
-    Inv-loop
-    μ-loop
-    cast-t16
-    straight-mode-requires
-    loop-holds
-    shared-slice-read-of-u8
-    of-u8-requires
-    mul-t23
-    shared-slice-read-t25
-    step-requires
-    counted-requires
-    add-i
-    loop-less
-    loop-again
-    same-length
-    same-length-2
-    same-length-3
-    returns)
+run-spec = tie.close (tie.spec entries-requires same-length same-length-2 same-length-3 returns)

@@ -35,7 +35,7 @@ unfolding accepted
 returns c =
     let a = c .before .before .before .args in
     let n = a .core * stateWords + stateWords - a .core * stateWords in
-    λ board. c .state-obeys .ensures board (a .core) ∙ part-rules board (now (a .states)) (a .core) (c .before .before .before .pre) n (omega arith)
+    λ board. c .state-obeys .ensures board ∙ part-rules board (now (a .states)) (a .core) (c .before .before .before .pre) n (omega arith)
 
 pub state-accepted-spec : {M : Type 1} → statement M
 state-accepted-spec =

@@ -13,13 +13,13 @@ shared-slice-read-if1 : tie.Need-shared-slice-read-if1
 shared-slice-read-if1 c = search needs
 
 returns : tie.Need-returns
-returns c = λ board core. simp (lt-leb _ _ (c .if1 .taken))
+returns c = λ board. simp (lt-leb _ _ (c .if1 .taken))
 
 shared-slice-read-if2 : tie.Need-shared-slice-read-if2
 shared-slice-read-if2 c = search needs
 
 returns-2 : tie.Need-returns-2
-returns-2 c = λ board core. simp (le-leb _ _ (c .before .before .if1 .left), lt-leb _ _ (c .if2 .taken))
+returns-2 c = λ board. simp (le-leb _ _ (c .before .before .if1 .left), lt-leb _ _ (c .if2 .taken))
 
 shared-slice-read-is-mode : tie.Need-shared-slice-read-is-mode
 shared-slice-read-is-mode c = search needs
@@ -35,9 +35,10 @@ addresses-obey-requires c κs = search needs
 
 returns-3 : tie.Need-returns-3
 returns-3 c =
-    λ board core.
-    let r = rules board core (ownWord (now (c .before .before .before .before .before .before .before .before .before .before .before .args .own))) in
-    c .addresses-obey .ensures board core
+    λ board.
+    let a = c .before .before .before .before .before .before .before .before .before .before .before .args in
+    let r = rules board (a .core) (ownWord (now (a .own))) in
+    c .addresses-obey .ensures board (a .core)
     ∙ pass (eq-eqb _ _ (c .before .if4 .taken)) (drop 4 r)
     ∙ pass (sym (c .before .before .before .before .is-mode .ensures) ∙ c .before .before .before .if3 .taken) (drop 3 r)
     ∙ pass (le-leb _ _ (c .before .before .before .before .before .before .if2 .left)) (drop 2 r)
@@ -45,7 +46,7 @@ returns-3 c =
 
 returns-4 : tie.Need-returns-4
 returns-4 c =
-    λ board core.
+    λ board.
     simp (
       le-leb _ _ (c .before .before .before .before .before .before .before .if1 .left),
       le-leb _ _ (c .before .before .before .before .before .if2 .left),
@@ -55,7 +56,7 @@ returns-4 c =
 
 returns-5 : tie.Need-returns-5
 returns-5 c =
-    λ board core.
+    λ board.
     simp (le-leb _ _ (c .before .before .before .before .before .if1 .left), le-leb _ _ (c .before .before .before .if2 .left), sym (c .before .is-mode .ensures) ∙ c .if3 .left)
 
 pub state-obeys-spec : {M : Type 1} → statement M
