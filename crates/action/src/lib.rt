@@ -1,3 +1,4 @@
+#![tactic(auto)]
 // The operations: each answers an instruction's action, from what it read.
 pub mod accesses;
 pub mod accumulator;

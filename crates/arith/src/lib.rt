@@ -1,3 +1,4 @@
+#![tactic(auto)]
 // Arithmetic on words, and the bits of SR.
 ghost use Rattle.std.specs.Prelude.{◌≡◌, ◌^◌, ◌<◌, bit_and, bit_or, bit_xor};
 ghost use Rattle.bits.specs.Choice.{if◌then◌else◌};

@@ -1,3 +1,4 @@
+#![tactic(auto)]
 // Extending the low bits of a word: immediates, loads and the extend instructions share these two functions.
 ghost use Rattle.std.specs.Prelude.{◌≡◌, ◌^◌, ◌<◌, true, false};
 ghost use Rattle.bits.specs.Word.{extend};

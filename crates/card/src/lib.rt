@@ -1,3 +1,4 @@
+#![tactic(auto)]
 // What a run card says, line by line.
 ghost use Rattle.std.specs.Prelude.{◌≡◌, ◌≤◌, length, drop};
 ghost use Rattle.text.specs.Ascii.{ascii};

@@ -1,3 +1,4 @@
+#![tactic(auto)]
 // Which word is which instruction: from words to entries and back.
 pub mod decoder;
 pub mod encoder;

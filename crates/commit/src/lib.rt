@@ -1,3 +1,4 @@
+#![tactic(auto)]
 // Committing what an instruction does, in place: its core's own state, memory, and every core's link.
 ghost use Rattle.std.specs.Prelude.{◌≡◌, ◌≤◌, ◌<◌, length};
 ghost use Rattle.isa.specs.Vectors.{vector_count};

@@ -1,3 +1,4 @@
+#![tactic(auto)]
 // The decode cache: what a fetch finds in it, and what a store empties. A word outside the cache is decoded each time.
 ghost use Rattle.std.specs.Prelude.{◌≡◌, ◌+◌, ◌*◌, ◌/◌, ◌%◌, ◌^◌, ◌≤◌, ◌<◌, eqb, length, get_or, set};
 ghost use Rattle.bits.specs.Choice.{if◌then◌else◌};

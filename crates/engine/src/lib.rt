@@ -1,3 +1,4 @@
+#![tactic(auto)]
 // Both runs of the engine: what is lent is tested, then run.
 pub mod answer;
 pub mod fast;

@@ -1,3 +1,4 @@
+#![tactic(auto)]
 // An instruction on what is lent, or an exception in its place: its inputs are read, and what it does is committed.
 ghost use Rattle.std.specs.Prelude.{List, ◌≡◌, ℕ, ◌+◌, ◌*◌, ◌≤◌, ◌<◌, length};
 ghost use Rattle.isa.specs.Vectors.{vector_count};

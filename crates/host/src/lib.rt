@@ -1,3 +1,4 @@
+#![tactic(auto)]
 // What C and Rust programs call: plain numbers in and out.
 ghost use Rattle.std.specs.Prelude.{◌≡◌};
 ghost use Rattle.isa.specs.InstructionSet.{decode};

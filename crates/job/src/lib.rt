@@ -1,3 +1,4 @@
+#![tactic(auto)]
 // A card's job: its answer, its memory image, its schedule and its cores' first states.
 ghost use Rattle.std.specs.Prelude.{◌≡◌, ◌+◌, ◌*◌, ◌≤◌, ◌<◌, length, drop, get_or, replicate};
 ghost use Rattle.std.proofs.lemmas.List.Edits.{sets};

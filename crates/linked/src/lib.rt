@@ -1,3 +1,4 @@
+#![tactic(auto)]
 // Runs with linked cores: what core 0 fetches and completes, they execute too.
 ghost use Rattle.refusal.specs.Lent.{lent};
 ghost use Rattle.steps.specs.Inner.{Runnable};

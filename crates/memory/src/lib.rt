@@ -1,3 +1,4 @@
+#![tactic(auto)]
 // Memory, high byte first: the test of an access, and loads and stores of 1, 2 or 4 bytes.
 ghost use Rattle.std.specs.Prelude.{◌≡◌, ◌+◌, ◌*◌, ◌<◌, ◌≤◌, ◌^◌, ◌%◌, length};
 ghost use Rattle.bits.specs.Word.{extend};

@@ -1,3 +1,4 @@
+#![tactic(auto)]
 // The interrupt controller of document 001 (PIC): line levels are latched in PICSR, and what is latched there interrupts its core.
 ghost use Rattle.std.specs.Prelude.{List, ◌≡◌, ℕ, ◌+◌, ◌*◌, ◌≤◌, ◌<◌, length};
 ghost use Rattle.isa.specs.Vectors.{vector_count};

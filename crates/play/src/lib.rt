@@ -1,3 +1,4 @@
+#![tactic(auto)]
 // From a file of vectors and a run card's bytes to the bytes that the runner prints.
 ghost use Rattle.std.specs.Prelude.{◌≡◌, ◌≤◌, T, length};
 ghost use Rattle.card.specs.Answer.{refusal, job_at};

@@ -1,3 +1,4 @@
+#![tactic(auto)]
 // Writers that put text into bytes that the caller lends.
 ghost use Rattle.std.specs.Prelude.{◌≡◌, ◌++◌, ◌+◌, ◌≤◌, ◌<◌, length};
 ghost use Rattle.print.specs.Digits.{digits, decimal_places, decimal, hexadecimal};

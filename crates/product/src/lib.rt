@@ -1,3 +1,4 @@
+#![tactic(auto)]
 // Products, quotients, and the accumulator that products are added to.
 ghost use Rattle.std.specs.Prelude.{◌≡◌, ◌*◌, ◌^◌, ◌<◌, not, pos, neg_ℤ, nat_le, nat_lt, unsigned_abs};
 ghost use Rattle.std.specs.Bool.{xor};

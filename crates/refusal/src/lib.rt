@@ -1,3 +1,4 @@
+#![tactic(auto)]
 // What a run is lent is tested before it runs, in the order of the documents' refusals.
 ghost use Rattle.std.specs.Prelude.{◌≡◌};
 ghost use Rattle.effect.specs.Board.{Board};

@@ -1,3 +1,4 @@
+#![tactic(auto)]
 // The result of a run, written as text into bytes that the caller lends.
 ghost use Rattle.std.specs.Prelude.{◌≡◌, ◌++◌, ◌+◌, ◌≤◌, length};
 ghost use Rattle.effect.specs.State.{state_words};

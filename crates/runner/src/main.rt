@@ -1,3 +1,4 @@
+#![tactic(auto)]
 // The runner: a run card on standard input and a file `vectors`, if there is one, in the current directory; what it prints on standard output, and what went
 // wrong on standard error.
 ghost use Rattle.std.specs.Prelude.{◌≡◌, ◌≤◌, length};

@@ -1,3 +1,4 @@
+#![tactic(auto)]
 // What each kind does, a line a kind, in the order of the kinds.
 ghost use Rattle.std.specs.Prelude.{◌≡◌, ◌-◌, ◌<◌};
 ghost use Rattle.isa.specs.Groups.{first_nop_movhi, first_compare_immediate, first_compare, IsNopMovhi, IsControl, IsLoad, IsAddImmediate, IsImmediate, IsCompareImmediate, IsStore, IsArithmetic, IsLogic, IsCompare, IsCache};

@@ -1,3 +1,4 @@
+#![tactic(auto)]
 // One loop for both runs: the entries of a schedule, with a decode cache that may be empty.
 ghost use Rattle.std.specs.Prelude.{false, [], ◌∷◌, ◌≡◌, ◌+◌, ◌*◌, ◌%◌, ◌≤◌, ◌<◌, length};
 ghost use Rattle.isa.specs.Vectors.{vector_count};

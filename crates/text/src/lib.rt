@@ -1,3 +1,4 @@
+#![tactic(auto)]
 // Digits, numbers and lines of text.
 ghost use Rattle.std.specs.Prelude.{◌≡◌, ◌+◌, ◌≤◌, ◌<◌, length, drop};
 ghost use Rattle.text.specs.Digits.{glyph as glyphOf, digit as digitOf};

@@ -1,3 +1,4 @@
+#![tactic(auto)]
 // The rules on a list of vectors.
 ghost use Rattle.std.specs.Prelude.{◌≡◌, ◌<◌, ◌≤◌, length, get_or};
 ghost use Rattle.bits.specs.Every.{every_below};

@@ -1,3 +1,4 @@
+#![tactic(auto)]
 // What the file named `vectors` says, line by line.
 ghost use Rattle.std.specs.Prelude.{◌≡◌, ◌<◌, drop, get_or};
 ghost use Rattle.text.specs.Ascii.{ascii};

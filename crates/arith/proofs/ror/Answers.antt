@@ -1,0 +1,5 @@
+use Rattle.arith.proofs.Shift.{ror_or}
+use Rattle.arith.proofs.ror.Goals as goal
+
+pub returns : goal.returns
+returns c = ror_or c.args.x c.args.n c.ranges.x.fits
