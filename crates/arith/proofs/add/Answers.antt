@@ -1,4 +1,4 @@
-use Rattle.std.proofs.Common.{◌≡◌, ◌+◌, ◌%◌, ◌^◌, ◌<◌, leb, ◌∙◌, ap₂, arith, rules}
+use Rattle.std.proofs.Common.{◌≡◌, ◌+◌, ◌%◌, ◌^◌, ◌<◌, leb, ◌∙◌, ap₂, arith}
 use Rattle.bits.specs.Word.{bit}
 use Rattle.arith.specs.Sums.{sum}
 use Rattle.arith.proofs.Sums.{sum_ranged, sum_carry, sum_overflow, flagged_same}
@@ -16,7 +16,7 @@ returns c =
     let l : v.result < 2 ^ 32 = omega arith in
     let k : c.one_if.result + c.one_if-2.result ≡ bit (leb (2 ^ 32) (a.a + a.b + a.c)) =
     ap₂ ◌+◌ c.one_if.ensures.0 c.one_if-2.ensures.0
-    ∙ sum_carry a.a a.b a.c s.result v.result f.a.fits f.b.fits p s.ensures v.ensures in
+    ∙ sum_carry a.a a.b a.c s.result v.result f.a.fits f.b.fits p s.ensures.value v.ensures.value in
     let o = sum_overflow a.a a.b v.result f.a.fits f.b.fits l a.c p h in
     let g = sum_ranged a.a a.b a.c in
     (flagged_same h k o, rw k g.carry_lt, rw o g.overflow_lt)

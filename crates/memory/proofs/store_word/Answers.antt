@@ -1,5 +1,4 @@
 -- Two halves make a word.
-use borrow.Author.Rules.{rules}
 use Rattle.memory.proofs.Halves.{store_halves}
 use Rattle.memory.proofs.store_word.Goals as goal
 

@@ -1,10 +1,6 @@
 use mathlib.Core.Path.{◌≡◌, refl, sym, ◌∙◌}
-use mathlib.Core.Bool.{true}
 use native.Mathlib.Omega.{arith}
-use Prim.Native.Nat.{◌-◌, ◌≤◌}
 use lib.ListN.{length, get_or}
-use borrow.Author.Tests.{not-true, not-false}
-use borrow.Author.Rules.{rules}
 use Rattle.bits.specs.Every.{every_below}
 use Rattle.bits.proofs.Every.{below_next, below_stop}
 use Rattle.vector_list.specs.Rules.{is_vector}
@@ -18,13 +14,13 @@ pub returns-then-not-is_vector : goal.returns-then-not-is_vector
 returns-then-not-is_vector c =
     let list = c.args.list.now in
     let l = c.loop-i in
-    sym (below_stop (λ i. is_vector (get_or list i 0)) (length list) l.i c.loop-i-test.true (sym c.is_vector.ensures ∙ not-true _ c.if-not-is_vector.true))
+    sym (below_stop (λ i. is_vector (get_or list i 0)) (length list) l.i c.loop-i-test.true (sym c.is_vector.ensures ∙ c.if-not-is_vector.true))
 
 pub loop-i-preserved : goal.loop-i-preserved
 loop-i-preserved c =
     let list = c.args.list.now in
     let l = c.loop-i in
-    (below_next (λ i. is_vector (get_or list i 0)) l.i l.invariant.0 (sym c.is_vector.ensures ∙ not-false _ c.if-not-is_vector.false), omega arith)
+    (below_next (λ i. is_vector (get_or list i 0)) l.i l.invariant.0 (sym c.is_vector.ensures ∙ c.if-not-is_vector.false), omega arith)
 
 pub returns : goal.returns
 returns c =

@@ -1,11 +1,8 @@
 use mathlib.Core.Path.{◌≡◌, sym, ◌∙◌}
 use native.Mathlib.Numerals.{unary_clauses}
 use native.Mathlib.Omega.{arith}
-use Prim.Native.Nat.{◌+◌, ◌-◌, ◌≤◌}
+use Prim.Native.Nat.{◌+◌, ◌-◌}
 use lib.ListN.{length}
-use borrow.Author.Tests.{not-true, not-false}
-use borrow.Author.Rules.{rules}
-use Rattle.vector_list.specs.Rules.{first_repeat}
 use Rattle.vector_list.proofs.Laws.{repeat_next, repeat_here, repeat_none}
 use Rattle.vector_list.proofs.first_repeat.Goals as goal
 
@@ -19,7 +16,7 @@ returns-then-not-is_new c =
     let n = length list - l.i in
     let m = length list - (l.i + 1) in
     let e : n ≡ m + 1 = omega arith in
-    let new = sym c.is_new.ensures ∙ not-true _ c.if-not-is_new.true in
+    let new = sym c.is_new.ensures ∙ c.if-not-is_new.true in
     (sym (l.invariant.0 ∙ repeat_here list l.i n m e new), omega arith)
 
 pub loop-i-preserved : goal.loop-i-preserved
@@ -29,7 +26,7 @@ loop-i-preserved c =
     let n = length list - l.i in
     let m = length list - (l.i + 1) in
     let e : n ≡ m + 1 = omega arith in
-    let new = sym c.is_new.ensures ∙ not-false _ c.if-not-is_new.false in
+    let new = sym c.is_new.ensures ∙ c.if-not-is_new.false in
     (l.invariant.0 ∙ repeat_next list l.i n m e new, omega arith)
 
 pub returns : goal.returns

@@ -10,7 +10,6 @@ use Rattle.isa.specs.Groups.{first_compare_immediate, first_compare}
 use Rattle.isa.specs.InstructionSet.{rows, fits, first_fit}
 use Rattle.isa.specs.Inner.{kind_of, kind_in, compare_kind}
 use Rattle.isa.proofs.Rows.{by_opcode, by_bits, by_field, settles}
-use borrow.Author.Rules.{rules}
 use Rattle.codec.proofs.decoder.kind_of.Goals as goal
 
 -- the single opcodes of the match, the last arm's first
@@ -135,16 +134,16 @@ pub returns-in_default : goal.returns-in_default
 unfolding rows fits first_fit kind_of kind_in
 returns-in_default c =
     let w = c.args.w in
-    by_opcode w _ 1 refl (within_but (λ o. settles o 1) keys 0x00 33 tt (w / 2 ^ 26) (omega arith) (omega arith) c.in_default-1.rest)
+    by_opcode w _ 1 refl (within_but (λ o. settles o 1) keys 0x00 33 tt (w / 2 ^ 26) (omega arith) (omega arith) c.in_default.in_default-own.rest)
 
 pub returns-in_default-2 : goal.returns-in_default-2
 unfolding rows fits first_fit kind_of kind_in
 returns-in_default-2 c =
     let w = c.args.w in
-    by_opcode w _ 1 refl (within_but (λ o. settles o 1) keys 0x2c 9 tt (w / 2 ^ 26) (omega arith) (omega arith) c.in_default-1.rest)
+    by_opcode w _ 1 refl (within_but (λ o. settles o 1) keys 0x2c 9 tt (w / 2 ^ 26) (omega arith) (omega arith) c.in_default.in_default-own.rest)
 
 pub returns-in_default-3 : goal.returns-in_default-3
 unfolding rows fits first_fit kind_of kind_in
 returns-in_default-3 c =
     let w = c.args.w in
-    by_opcode w _ 1 refl (within_but (λ o. settles o 1) keys 0x38 8 tt (w / 2 ^ 26) (omega arith) (omega arith) c.in_default-1.rest)
+    by_opcode w _ 1 refl (within_but (λ o. settles o 1) keys 0x38 8 tt (w / 2 ^ 26) (omega arith) (omega arith) c.in_default.in_default-own.rest)

@@ -7,7 +7,6 @@ use borrow.Author.Tests.{eq-eqb, ne_eqb, le-leb}
 use Rattle.bits.proofs.Tests.{equal_but, equal_when, member, none_member}
 use Rattle.isa.specs.InstructionSet.{rows, fits, first_fit}
 use Rattle.isa.specs.Inner.{kind_of, kind_in}
-use borrow.Author.Rules.{rules}
 use Rattle.codec.proofs.decoder.register_kind.Goals as goal
 
 pub returns-then-high-ge12 : goal.returns-then-high-ge12
@@ -63,4 +62,4 @@ returns-in_default c =
     let x = c.args.x in
     let others : List ℕ = 15 ∷ 14 ∷ 13 ∷ 12 ∷ 8 ∷ [] in
     equal_when (λ x. leb 6 (x % 16) && not (member (x % 16) others)) (λ x. 1) (kind_in 0x38 0) 0 256 tt x (omega arith) (omega arith)
-    (rw (le-leb 6 (x % 16) (omega arith), none_member (x % 16) others c.in_default-1.rest))
+    (rw (le-leb 6 (x % 16) (omega arith), none_member (x % 16) others c.in_default.in_default-own.rest))
