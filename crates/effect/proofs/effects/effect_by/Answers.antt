@@ -1,6 +1,5 @@
 use mathlib.Core.Path.{sym, ap, ◌∙◌}
 use Rattle.effect.specs.Inner.{effect_by}
-use borrow.Author.Rules.{rules}
 use Rattle.effect.proofs.effects.effect_by.Goals as goal
 
 pub returns-in-Advance : goal.returns-in-Advance

@@ -1,3 +1,4 @@
+use borrow.Enum.Refused.{opened}
 use mathlib.Core.Path.{◌≡◌, refl, sym, ap, ◌∙◌}
 use mathlib.Core.List.{List, [], ◌∷◌}
 use Prim.Native.Nat.{ℕ}
@@ -8,7 +9,6 @@ use Rattle.isa.specs.declared.vectors.Cause.TheVariants.{Bus, Alignment, Illegal
 use Rattle.isa.specs.contracts.vectors.Cause.{the_type}
 use Rattle.effect.specs.Effect.{restart, exception_pc}
 use Rattle.effect.specs.declared.types.Inputs.{Inputs}
-use borrow.Author.Rules.{rules}
 use Rattle.effect.proofs.effects.exception_pc.Goals as goal
 
 -- every cause but syscall and interrupt
@@ -32,4 +32,4 @@ pub returns-in-Interrupt : goal.returns-in-Interrupt
 returns-in-Interrupt c = sym (ap (exception_pc c.args.x) c.in-Interrupt.is)
 
 pub returns-in_default : goal.returns-in_default
-returns-in_default c = c.restart.ensures ∙ restarted c.args.x c.args.cause c.in_default.in_default-own.keys3
+returns-in_default c = c.restart.ensures ∙ restarted c.args.x c.args.cause (opened c.in_default.in_default-own.keys3)

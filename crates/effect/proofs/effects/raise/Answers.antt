@@ -1,5 +1,4 @@
 use Rattle.effect.specs.Effect.{raises}
-use borrow.Author.Rules.{rules}
 use Rattle.effect.proofs.effects.raise.Goals as goal
 
 pub returns : goal.returns

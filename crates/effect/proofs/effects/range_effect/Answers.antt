@@ -1,5 +1,4 @@
 use Rattle.effect.specs.Inner.{effect_by}
-use borrow.Author.Rules.{rules}
 use Rattle.effect.proofs.effects.range_effect.Goals as goal
 
 pub returns : goal.returns

@@ -1,8 +1,8 @@
+use borrow.Enum.Refused.{opened}
 use mathlib.Core.Path.{sym, ap, ◌∙◌}
 use Rattle.effect.specs.Inner.{effect_by}
 use Rattle.effect.specs.declared.types.Action.{Action}
 use Rattle.effect.proofs.Stores.{stores_none}
-use borrow.Author.Rules.{rules}
 use Rattle.effect.proofs.effects.store_of.Goals as goal
 
 pub returns-in-Save : goal.returns-in-Save
@@ -14,4 +14,4 @@ unfolding effect_by
 returns-in-SaveLinked c = λ x. sym (ap (λ (a : Action). (effect_by x a).store) c.in-SaveLinked.is)
 
 pub returns-in_default : goal.returns-in_default
-returns-in_default c = λ x. c.no_store.ensures ∙ stores_none x c.args.action c.in_default.in_default-own.keys3
+returns-in_default c = λ x. c.no_store.ensures ∙ stores_none x c.args.action (opened c.in_default.in_default-own.keys3)
