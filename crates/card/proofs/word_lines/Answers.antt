@@ -1,8 +1,5 @@
-use Prim.Native.Nat.{◌+◌, ◌≤◌}
-use mathlib.Core.Path.{◌≡◌, refl, ap, sym, ◌∙◌}
+use mathlib.Core.Path.{refl, ap, sym, ◌∙◌}
 use native.Mathlib.Omega.{arith}
-use Rattle.card.specs.Card.{word_lines}
-use Rattle.card.specs.Answer.{header_lines}
 use Rattle.card.specs.Inner.{step_in, left, close, word_lines_of}
 use Rattle.card.proofs.Laws.{words_next, words_stop, words_over, words_whole}
 use borrow.Author.Rules.{rules}
