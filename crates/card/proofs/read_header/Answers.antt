@@ -14,11 +14,10 @@ loop-i-init c = (refl, refl, refl, omega arith, omega arith)
 
 pub loop-i-preserved : goal.loop-i-preserved
 loop-i-preserved c =
-    let s = c in
-    let l = s.loop-i in
-    let card = s.args.card.now in
-    let e = sym s.line_at.ensures.0 ∙ ap (step_in card) c.in-Value.is in
-    let ahead = rw c.in-Value.is at s.line_at.ensures.1 in
+    let l = c.loop-i in
+    let card = c.args.card.now in
+    let e = sym c.line_at.ensures.0 ∙ ap (step_in card) c.in-Value.is in
+    let ahead = rw c.in-Value.is at c.line_at.ensures.1 in
     let due : l.i < length header = omega arith in
     let next = ap (λ n. rows_from card (drop (l.i + 1) header) n (l.i + 1) (set l.values l.i c.in-Value.v) (set l.places l.i l.at)) (sym ahead.0) in (
       l.invariant.0 ∙ rows_next card header l.at l.i l.values l.places due e ∙ next,
@@ -30,10 +29,9 @@ loop-i-preserved c =
 
 pub returns-in-Fault : goal.returns-in-Fault
 returns-in-Fault c =
-    let s = c in
-    let l = s.loop-i in
-    let card = s.args.card.now in
-    let e = sym s.line_at.ensures.0 ∙ ap (step_in card) c.in-Fault.is in
+    let l = c.loop-i in
+    let card = c.args.card.now in
+    let e = sym c.line_at.ensures.0 ∙ ap (step_in card) c.in-Fault.is in
     let due : l.i < length header = omega arith in
     sym (l.invariant.0 ∙ rows_stop card header l.at l.i l.values l.places due e)
 

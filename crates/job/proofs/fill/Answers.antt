@@ -16,26 +16,23 @@ loop-more-init c = (refl, omega arith, refl)
 
 pub store-requires : goal.store-requires
 store-requires c =
-    let s = c in
-    let l = s.loop-more in
-    let a = s.args in
-    let e = ap length (from_value l.more a.card.now l.at s.word_at.ensures.0 s.loop-more-test.true c.in-Value.is) in
+    let l = c.loop-more in
+    let a = c.args in
+    let e = ap length (from_value l.more a.card.now l.at c.word_at.ensures.0 c.loop-more-test.true c.in-Value.is) in
     (word_wide, omega arith)
 
 pub overflow_add-to : goal.overflow_add-to
 overflow_add-to c =
-    let s = c in
-    let l = s.loop-more in
-    let a = s.args in
-    let e = ap length (from_value l.more a.card.now l.at s.word_at.ensures.0 s.loop-more-test.true c.in-Value.is) in
+    let l = c.loop-more in
+    let a = c.args in
+    let e = ap length (from_value l.more a.card.now l.at c.word_at.ensures.0 c.loop-more-test.true c.in-Value.is) in
     search rules
 
 pub loop-more-preserved : goal.loop-more-preserved
 loop-more-preserved c =
-    let s = c in
-    let l = s.loop-more in
-    let a = s.args in
-    let f = from_value l.more a.card.now l.at s.word_at.ensures.0 s.loop-more-test.true c.in-Value.is in
+    let l = c.loop-more in
+    let a = c.args in
+    let f = from_value l.more a.card.now l.at c.word_at.ensures.0 c.loop-more-test.true c.in-Value.is in
     let e = ap length f in
     let p = c.store.ensures in
     let n = ap length p ∙ length_stored 4 l.image l.to c.in-Value.w in
@@ -47,10 +44,9 @@ loop-more-preserved c =
 
 pub returns-in-Fault : goal.returns-in-Fault
 returns-in-Fault c =
-    let s = c in
-    let l = s.loop-more in
-    let a = s.args in
-    let e = from_fault l.more a.card.now l.at s.word_at.ensures.0 c.in-Fault.is in
+    let l = c.loop-more in
+    let a = c.args in
+    let e = from_fault l.more a.card.now l.at c.word_at.ensures.0 c.in-Fault.is in
     sym (ap (filled l.image l.to) e ∙ fill_none l.image l.to) ∙ l.invariant.0
 
 pub returns : goal.returns

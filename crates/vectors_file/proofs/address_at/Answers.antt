@@ -22,6 +22,5 @@ returns-in-5 c = (c.value_at-in-5.ensures.0 ∙ simp c.in-5.is, c.value_at-in-5.
 
 pub returns-in_default : goal.returns-in_default
 returns-in_default c =
-    let a = c in
-    let e : a.args.i ≡ 6 = omega arith in
+    let e : c.args.i ≡ 6 = omega arith in
     (c.value_at-in_default.ensures.0 ∙ simp e, c.value_at-in_default.ensures.1)

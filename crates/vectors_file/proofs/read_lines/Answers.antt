@@ -16,10 +16,9 @@ loop-i-init c = (refl, refl, omega arith)
 
 pub loop-i-preserved : goal.loop-i-preserved
 loop-i-preserved c =
-    let s = c in
-    let l = s.loop-i in
-    let file = s.args.file.now in
-    let e = sym s.address_at.ensures.0 ∙ ap (step_in file) c.in-Value.is in
+    let l = c.loop-i in
+    let file = c.args.file.now in
+    let e = sym c.address_at.ensures.0 ∙ ap (step_in file) c.in-Value.is in
     let due : l.i < length keys = omega arith in
     let next = lines_next keys l.i (left file l.at (l.i + 1)) (λ vs. close (take l.i l.list ++ vs)) due e in
     let more = one_more close l.list l.i c.in-Value.v (omega arith) in (
@@ -30,10 +29,9 @@ loop-i-preserved c =
 
 pub returns-in-Fault : goal.returns-in-Fault
 returns-in-Fault c =
-    let s = c in
-    let l = s.loop-i in
-    let file = s.args.file.now in
-    let e = sym s.address_at.ensures.0 ∙ ap (step_in file) c.in-Fault.is in
+    let l = c.loop-i in
+    let file = c.args.file.now in
+    let e = sym c.address_at.ensures.0 ∙ ap (step_in file) c.in-Fault.is in
     let due : l.i < length keys = omega arith in
     c.bad.ensures ∙ ap answered (sym (l.invariant.0 ∙ lines_stop keys l.i (left file l.at (l.i + 1)) (λ vs. close (take l.i l.list ++ vs)) due e))
 
