@@ -2,7 +2,6 @@ use mathlib.Core.Path.{refl, ◌∙◌}
 use borrow.Author.Tests.{eq-eqb, ne_eqb, le-leb, lt-leb}
 use Rattle.card.specs.Card.{max_card}
 use Rattle.card.specs.Inner.{last_lines}
-use borrow.Author.Rules.{rules}
 use Rattle.card.proofs.finish_at.Goals as goal
 
 pub returns-then-card-gt-MAX_CARD : goal.returns-then-card-gt-MAX_CARD

@@ -1,7 +1,6 @@
 use mathlib.Core.Path.{◌∙◌}
 use borrow.Author.Tests.{eq-eqb, ne_eqb}
 use Rattle.card.specs.Inner.{header_at}
-use borrow.Author.Rules.{rules}
 use Rattle.card.proofs.header_at.Goals as goal
 
 pub returns-then-p-ne1 : goal.returns-then-p-ne1

@@ -1,13 +1,12 @@
 -- The invariant: the lines not read yet, with the values and places stored before them, come to what the header says.
-use Prim.Native.Nat.{◌+◌, ◌-◌, ◌≤◌, ◌<◌}
+use Prim.Native.Nat.{◌+◌, ◌<◌}
 use mathlib.Core.Path.{◌≡◌, refl, ap, sym, ◌∙◌}
 use native.Mathlib.Omega.{arith}
-use lib.ListN.{length, drop, get_or, set, length-set}
+use lib.ListN.{length, drop, set, length-set}
 use Rattle.card.specs.Card.{good}
 use Rattle.card.specs.Answer.{header_lines, before_schedule}
-use Rattle.card.specs.Inner.{step_in, header, rows_from, header_from}
+use Rattle.card.specs.Inner.{step_in, header, rows_from}
 use Rattle.card.proofs.Laws.{rows_next, rows_stop, rows_done, bound_set}
-use borrow.Author.Rules.{rules}
 use Rattle.card.proofs.read_header.Goals as goal
 
 pub loop-i-init : goal.loop-i-init
@@ -15,14 +14,12 @@ loop-i-init c = (refl, refl, refl, omega arith, omega arith)
 
 pub loop-i-preserved : goal.loop-i-preserved
 loop-i-preserved c =
-    let s = c in
-    let l = s.loop-i in
-    let card = s.args.card.now in
-    let read = c.in-Value.given in
-    let e = sym s.line_at_lem.ensures.0 ∙ ap (step_in card) read.1 in
-    let ahead = rw read.1 at s.line_at_lem.ensures.1 in
+    let l = c.loop-i in
+    let card = c.args.card.now in
+    let e = sym c.line_at.ensures.0 ∙ ap (step_in card) c.in-Value.is in
+    let ahead = rw c.in-Value.is at c.line_at.ensures.1 in
     let due : l.i < length header = omega arith in
-    let next = ap (λ n. rows_from card (drop (l.i + 1) header) n (l.i + 1) (set l.values l.i read.0.0) (set l.places l.i l.at)) (sym ahead.0) in (
+    let next = ap (λ n. rows_from card (drop (l.i + 1) header) n (l.i + 1) (set l.values l.i c.in-Value.v) (set l.places l.i l.at)) (sym ahead.0) in (
       l.invariant.0 ∙ rows_next card header l.at l.i l.values l.places due e ∙ next,
       simp length-set l.invariant.1,
       simp length-set l.invariant.2,
@@ -32,10 +29,9 @@ loop-i-preserved c =
 
 pub returns-in-Fault : goal.returns-in-Fault
 returns-in-Fault c =
-    let s = c in
-    let l = s.loop-i in
-    let card = s.args.card.now in
-    let e = sym s.line_at_lem.ensures.0 ∙ ap (step_in card) c.in-Fault.is in
+    let l = c.loop-i in
+    let card = c.args.card.now in
+    let e = sym c.line_at.ensures.0 ∙ ap (step_in card) c.in-Fault.is in
     let due : l.i < length header = omega arith in
     sym (l.invariant.0 ∙ rows_stop card header l.at l.i l.values l.places due e)
 

@@ -1,13 +1,9 @@
 -- The invariant: the lines not read yet, with the values and places stored before them, come to what the header says.
-use Prim.Native.Nat.{◌+◌, ◌-◌, ◌≤◌, ◌<◌}
-use mathlib.Core.Path.{◌≡◌, refl, ap, sym, ◌∙◌}
-use native.Mathlib.Omega.{arith}
-use lib.ListN.{length, drop, get_or, set, length-set}
-use Rattle.card.specs.Card.{good}
+use Prim.Native.Nat.{◌-◌, ◌≤◌}
+use mathlib.Core.Path.{◌≡◌}
+use lib.ListN.{length, drop, get_or}
 use Rattle.card.specs.Answer.{header_lines, before_schedule}
-use Rattle.card.specs.Inner.{step_in, header, rows_from, header_from}
-use Rattle.card.proofs.Laws.{rows_next, rows_stop, rows_done, bound_set}
-use borrow.Author.Rules.{rules}
+use Rattle.card.specs.Inner.{header, rows_from, header_from}
 use Rattle.card.proofs.read_header.Given as goal
 
 abbrev pub invariant-loop-i : goal.invariant-loop-i

@@ -1,8 +1,5 @@
-use Prim.Native.Nat.{◌+◌, ◌≤◌}
-use mathlib.Core.Path.{◌≡◌, refl, ap, sym, ◌∙◌}
+use mathlib.Core.Path.{refl, ap, sym, ◌∙◌}
 use native.Mathlib.Omega.{arith}
-use Rattle.card.specs.Card.{word_lines}
-use Rattle.card.specs.Answer.{header_lines}
 use Rattle.card.specs.Inner.{step_in, left, close, word_lines_of}
 use Rattle.card.proofs.Laws.{words_next, words_stop, words_over, words_whole}
 use borrow.Author.Rules.{rules}
@@ -16,21 +13,19 @@ overflow_add-number c = let h = rw c.in-Value.is at c.word_at.ensures.1 in searc
 
 pub loop-more-preserved : goal.loop-more-preserved
 loop-more-preserved c =
-    let s = c in
-    let l = s.loop-more in
-    let a = s.args in
-    let e = sym s.word_at.ensures.0 ∙ ap (step_in a.card.now) c.in-Value.is in
-    let h = rw c.in-Value.is at s.word_at.ensures.1 in
-    (sym (words_next (close a.job) l.more (left a.card.now l.at l.number) s.loop-more-test.true e) ∙ l.invariant.0, omega arith)
+    let l = c.loop-more in
+    let a = c.args in
+    let e = sym c.word_at.ensures.0 ∙ ap (step_in a.card.now) c.in-Value.is in
+    let h = rw c.in-Value.is at c.word_at.ensures.1 in
+    (sym (words_next (close a.job) l.more (left a.card.now l.at l.number) c.loop-more-test.true e) ∙ l.invariant.0, omega arith)
 
 pub returns-in-Fault : goal.returns-in-Fault
 unfolding word_lines_of
 returns-in-Fault c =
-    let s = c in
-    let l = s.loop-more in
-    let a = s.args in
-    let e = sym s.word_at.ensures.0 ∙ ap (step_in a.card.now) c.in-Fault.is in
-    sym (words_stop (close a.job) l.more (left a.card.now l.at l.number) s.loop-more-test.true e) ∙ l.invariant.0
+    let l = c.loop-more in
+    let a = c.args in
+    let e = sym c.word_at.ensures.0 ∙ ap (step_in a.card.now) c.in-Fault.is in
+    sym (words_stop (close a.job) l.more (left a.card.now l.at l.number) c.loop-more-test.true e) ∙ l.invariant.0
 
 pub returns-then-at-card : goal.returns-then-at-card
 unfolding word_lines_of

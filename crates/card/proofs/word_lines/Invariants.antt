@@ -1,11 +1,8 @@
 use Prim.Native.Nat.{◌+◌, ◌≤◌}
-use mathlib.Core.Path.{◌≡◌, refl, ap, sym, ◌∙◌}
-use native.Mathlib.Omega.{arith}
+use mathlib.Core.Path.{◌≡◌}
 use Rattle.card.specs.Card.{word_lines}
 use Rattle.card.specs.Answer.{header_lines}
-use Rattle.card.specs.Inner.{step_in, left, close, word_lines_of}
-use Rattle.card.proofs.Laws.{words_next, words_stop, words_over, words_whole}
-use borrow.Author.Rules.{rules}
+use Rattle.card.specs.Inner.{left, close}
 use Rattle.card.proofs.word_lines.Given as goal
 
 abbrev pub invariant-loop-more : goal.invariant-loop-more

@@ -8,24 +8,21 @@ use Rattle.card.proofs.table.line_at.Goals as goal
 
 pub slice_bounds-key-end : goal.slice_bounds-key-end
 slice_bounds-key-end c =
-    let start = c in
-    let r = row_right start.args.i c.row_of-row.ensures start.requires in
+    let r = row_right c.args.i c.row_of-row.ensures c.requires in
     let wide = r.wide in
     let fits = r.fits in
     search rules
 
 pub slice_bounds-value_at-end : goal.slice_bounds-value_at-end
 slice_bounds-value_at-end c =
-    let start = c in
     let row = c.row_of-row.result in
-    let r = row_right start.args.i c.row_of-row.ensures start.requires in
+    let r = row_right c.args.i c.row_of-row.ensures c.requires in
     sym (length-take-le row.length row.key (let wide = r.wide in let fits = r.fits in omega arith))
 
 pub value_at-requires : goal.value_at-requires
 value_at-requires c =
-    let start = c in
-    let r = row_right start.args.i c.row_of-row.ensures start.requires in
-    subst Sensible (sym c.rule_of-rule.ensures) (r.sensible start.args.cores start.args.memory)
+    let r = row_right c.args.i c.row_of-row.ensures c.requires in
+    subst Sensible (sym c.rule_of-rule.ensures) (r.sensible c.args.cores c.args.memory)
 
 pub returns : goal.returns
 returns c =

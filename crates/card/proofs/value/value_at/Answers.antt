@@ -24,13 +24,12 @@ overflow_add-end c = let i = rw c.in-At.is at c.find_entry.ensures.1 in search r
 pub returns-in-At : goal.returns-in-At
 returns-in-At c =
     let a = c.args in
-    let from = c.in-At.given in
-    let n = from.0.1.0 + 1 in
+    let n = c.in-At.end + 1 in
     let found = c.find_entry.ensures in
-    let i = rw from.1 at found.1 in (
+    let i = rw c.in-At.is at found.1 in (
       step_of a.card.now n c.meant.result c.meant.ensures.1
           ∙ ap (followed (lines (drop n a.card.now))) c.meant.ensures.0
-          ∙ sym (first_found a.key.now (text_means a.rule) a.card.now _ found.0 from.1),
+          ∙ sym (first_found a.key.now (text_means a.rule) a.card.now _ found.0 c.in-At.is),
       ahead a.card.now a.at n c.meant.result c.meant.ensures.1 (omega arith) (omega arith),
     )
 
