@@ -2,7 +2,6 @@ use mathlib.Core.List.{List}
 use mathlib.Core.Path.{ap, ◌∙◌}
 use Prim.Native.Nat.{ℕ}
 use Rattle.pic.specs.Interrupt.{is_interrupted}
-use borrow.Author.Rules.{rules}
 use Rattle.pic.proofs.latch.Goals as goal
 
 pub returns : goal.returns

@@ -1,13 +1,12 @@
 use mathlib.Core.List.{List}
 use mathlib.Core.Path.{sym, ◌∙◌}
-use borrow.Author.Tests.{eq-eqb, ne_eqb, le-leb, lt-leb, not-true, not-false}
+use borrow.Author.Tests.{eq-eqb, ne_eqb, le-leb, lt-leb}
 use lib.ListN.{length}
 use Prim.Native.Nat.{ℕ, ◌/◌}
 use Rattle.effect.specs.State.{state_words}
 use Rattle.effect.specs.Board.{Board}
 use Rattle.refusal.specs.Refusal.{schedule_fits, levels_fit, first_broken, plain_refusal}
 use Rattle.refusal.proofs.Passes.{few_cores}
-use borrow.Author.Rules.{rules}
 use Rattle.refusal.proofs.check.Goals as goal
 
 -- the board of states of n words
@@ -85,7 +84,7 @@ returns-then-not-fits c =
     let states = sym c.states_fit.ensures ∙ c.if-not-states_fit.false in
     let obeyed = sym (c.states_accepted.ensures (board (length a.states.now) a.limit a.vectors.now)) ∙ c.if-not-states_accepted.false in
     let named = sym c.names_cores.ensures ∙ c.if-not-names_cores.false in
-    simp (memory, states, obeyed, le-leb _ _ c.if-schedule-gt65536.false, named, eq-eqb _ _ c.if-levels-schedule.false, sym c.limit_fits.ensures ∙ c.if-not-limit_fits.false, sym c.fits2.ensures ∙ c.if-not-fits.true)
+    simp (memory, states, obeyed, le-leb _ _ c.if-schedule-gt65536.false, named, eq-eqb _ _ c.if-levels-schedule.false, sym c.limit_fits.ensures ∙ c.if-not-limit_fits.false, sym c.fits.ensures ∙ c.if-not-fits.true)
 
 pub returns : goal.returns
 unfolding plain_refusal first_broken schedule_fits levels_fit
@@ -95,4 +94,4 @@ returns c =
     let states = sym c.states_fit.ensures ∙ c.if-not-states_fit.false in
     let obeyed = sym (c.states_accepted.ensures (board (length a.states.now) a.limit a.vectors.now)) ∙ c.if-not-states_accepted.false in
     let named = sym c.names_cores.ensures ∙ c.if-not-names_cores.false in
-    simp (memory, states, obeyed, le-leb _ _ c.if-schedule-gt65536.false, named, eq-eqb _ _ c.if-levels-schedule.false, sym c.limit_fits.ensures ∙ c.if-not-limit_fits.false, sym c.fits2.ensures ∙ c.if-not-fits.false)
+    simp (memory, states, obeyed, le-leb _ _ c.if-schedule-gt65536.false, named, eq-eqb _ _ c.if-levels-schedule.false, sym c.limit_fits.ensures ∙ c.if-not-limit_fits.false, sym c.fits.ensures ∙ c.if-not-fits.false)

@@ -2,7 +2,6 @@ use mathlib.Core.Path.{sym, ap, ◌∙◌}
 use Rattle.refusal.specs.Lent.{lent, board_of}
 use Rattle.refusal.specs.Refusal.{verdict_number}
 use Rattle.refusal.proofs.Passes.{then_cache, before_cache, cause_number}
-use borrow.Author.Rules.{rules}
 use Rattle.refusal.proofs.check_fast.Goals as goal
 
 pub returns-in-Accepted : goal.returns-in-Accepted
@@ -16,5 +15,5 @@ pub returns-in-Refused : goal.returns-in-Refused
 returns-in-Refused c =
     let a = c.args in
     let verdict = c.in-Refused in
-    let e = ap verdict_number (sym verdict.given.1) ∙ c.check-verdict.ensures in
-    e ∙ before_cache (lent a.memory.now a.states.now a.schedule.now a.levels.now a.limit a.vectors.now) a.cache.now (λ z. cause_number verdict.given.0.0 (e ∙ z))
+    let e = ap verdict_number (sym verdict.is) ∙ c.check-verdict.ensures in
+    e ∙ before_cache (lent a.memory.now a.states.now a.schedule.now a.levels.now a.limit a.vectors.now) a.cache.now (λ z. cause_number verdict.cause (e ∙ z))

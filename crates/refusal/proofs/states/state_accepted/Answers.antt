@@ -4,7 +4,6 @@ use native.Mathlib.Omega.{arith}
 use Rattle.effect.specs.State.{state_words}
 use Rattle.lawful.specs.Accepted.{accepted}
 use Rattle.refusal.proofs.Tests.{part_rules}
-use borrow.Author.Rules.{rules}
 use Rattle.refusal.proofs.states.state_accepted.Goals as goal
 
 pub returns : goal.returns

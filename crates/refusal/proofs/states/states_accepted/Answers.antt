@@ -1,16 +1,12 @@
 use mathlib.Core.Path.{◌≡◌, refl, sym, ◌∙◌}
-use mathlib.Core.Bool.{true}
 use native.Mathlib.Omega.{arith}
-use Prim.Native.Nat.{◌/◌, ◌-◌, ◌≤◌}
+use Prim.Native.Nat.{◌/◌}
 use lib.ListN.{length}
-use borrow.Author.Tests.{not-true, not-false}
 use Rattle.effect.specs.State.{state_words}
-use Rattle.effect.specs.Board.{Board}
 use Rattle.lawful.specs.Accepted.{accepted}
 use Rattle.refusal.specs.Refusal.{states_obey}
 use Rattle.bits.specs.Every.{every_below}
 use Rattle.bits.proofs.Every.{below_next, below_stop}
-use borrow.Author.Rules.{rules}
 use Rattle.refusal.proofs.states.states_accepted.Goals as goal
 
 pub loop-core-init : goal.loop-core-init

@@ -1,16 +1,11 @@
-use mathlib.Core.Path.{◌≡◌, refl, sym, ◌∙◌}
+use mathlib.Core.Path.{◌≡◌}
 use mathlib.Core.Bool.{true}
-use native.Mathlib.Omega.{arith}
 use Prim.Native.Nat.{◌/◌, ◌-◌, ◌≤◌}
 use lib.ListN.{length}
-use borrow.Author.Tests.{not-true, not-false}
 use Rattle.effect.specs.State.{state_words}
 use Rattle.effect.specs.Board.{Board}
 use Rattle.lawful.specs.Accepted.{accepted}
-use Rattle.refusal.specs.Refusal.{states_obey}
 use Rattle.bits.specs.Every.{every_below}
-use Rattle.bits.proofs.Every.{below_next, below_stop}
-use borrow.Author.Rules.{rules}
 use Rattle.refusal.proofs.states.states_accepted.Given as goal
 
 abbrev pub invariant-loop-core : goal.invariant-loop-core
