@@ -28,7 +28,7 @@ pub const OVE: u32 = 12;
 pub const DSX: u32 = 13;
 
 // A result with its flags, each 0 or 1.
-#[derive(Drop)]
+#[derive(Clone, Copy)]
 pub struct Flagged {
     pub value: u32,
     pub carry: u32,

@@ -19,7 +19,7 @@ pub const MAX_CARD: usize = 65536;
 const WORD_LINES: u32 = LINES as u32 + 1;
 
 // Why a card or a file of vectors is refused, document 01's 1, 9 and 10: the image's length, a line's form, a value's limits.
-#[derive(Drop)]
+#[derive(Clone, Copy)]
 pub enum Cause {
     Image,
     Form,
@@ -41,7 +41,7 @@ pub fn number(cause: Cause) -> u32
 }
 
 // A good card's job. The schedule's digits and the first w line are given by their places in the card.
-#[derive(Drop)]
+#[derive(Clone, Copy)]
 pub struct Job {
     pub cores: u32,
     pub memory: u32,
@@ -55,14 +55,14 @@ pub struct Job {
 }
 
 // The job, or why the card is refused and at which line.
-#[derive(Drop)]
+#[derive(Clone, Copy)]
 pub enum Reading {
     Good(Job),
     Bad(Cause, u32),
 }
 
 // A line's place in a card and its number, and the job of the lines before it.
-#[derive(Drop)]
+#[derive(Clone, Copy)]
 pub struct Progress {
     pub at: usize,
     pub line: u32,
@@ -70,14 +70,14 @@ pub struct Progress {
 }
 
 // How far a card is read: up to a line, or up to a fault and its line.
-#[derive(Drop)]
+#[derive(Clone, Copy)]
 pub enum Reached {
     Line(Progress),
     Fault(Cause, u32),
 }
 
 // A card's bytes and the line reached in it.
-#[derive(Drop)]
+#[derive(Clone, Copy)]
 pub struct Reader<'a> {
     pub card: &'a [u8],
     pub reached: Reached,

@@ -16,7 +16,7 @@ const MAX_MEMORY: u32 = 16384;
 pub const MAX_STEPS: u32 = 16384;
 
 // A line's rule, or the line above on which it depends.
-#[derive(Drop)]
+#[derive(Clone, Copy)]
 pub enum Limits {
     Fixed(Rule),
     // Each digit names a core.
@@ -26,7 +26,7 @@ pub enum Limits {
 }
 
 // A line of the header: its key, which is the first bytes of the array, and what may follow.
-#[derive(Drop)]
+#[derive(Clone, Copy)]
 pub struct Row {
     pub key: [u8; KEY],
     pub length: usize,

@@ -13,7 +13,7 @@ const MAX_DIGITS: usize = 16;
 pub const MAX_WORD: u32 = 0xffffffff;
 
 // What may follow a key. A number has the lowest value, the highest, and of what it is a multiple.
-#[derive(Drop)]
+#[derive(Clone, Copy)]
 pub enum Rule {
     Decimal(u32, u32, u32),
     Hexadecimal(u32, u32, u32),
@@ -27,7 +27,7 @@ pub enum Rule {
 pub const WORD: Rule = Rule::Hexadecimal(0, MAX_WORD, 1);
 
 // A line's value and the place of the next line.
-#[derive(Drop)]
+#[derive(Clone, Copy)]
 pub enum Field {
     Value(u32, usize),
     Fault(Cause),

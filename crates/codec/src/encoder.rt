@@ -10,7 +10,7 @@ use isa::groups;
 use isa::kinds::{Form, Place, Shape};
 use isa::register::present;
 
-#[derive(Drop)]
+#[derive(Clone, Copy)]
 pub enum Encoded {
     Word(u32),
     // No 32-bit word decodes to the entry: refusal 8.

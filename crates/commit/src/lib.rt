@@ -17,7 +17,7 @@ pub mod links;
 pub mod own_state;
 
 // What an instruction tells the run: how it ends, and whether and where it stored.
-#[derive(Drop)]
+#[derive(Clone, Copy)]
 pub struct Done {
     pub outcome: Outcome,
     pub stored: bool,

@@ -9,7 +9,7 @@ ghost use Rattle.decode_cache.specs.Inner.{Backed, fetch_at, cache_after};
 use commit::Done;
 
 // The form that a fetch executes, or 0 if it is outside memory; and 1 if its entry was filled.
-#[derive(Drop)]
+#[derive(Clone, Copy)]
 pub struct Fetched {
     pub entry: u64,
     pub reused: u32,

@@ -3,7 +3,7 @@ use isa::vectors::Cause;
 use product::Accumulator;
 
 // Where execution goes on: the next instruction, whether it is in a delay slot, and where it goes after the slot.
-#[derive(Drop)]
+#[derive(Clone, Copy)]
 pub struct Flow {
     pub pc: u32,
     pub delay: u32,
@@ -11,21 +11,21 @@ pub struct Flow {
 }
 
 // The link of l.lwa and l.swa.
-#[derive(Drop)]
+#[derive(Clone, Copy)]
 pub struct Link {
     pub held: u32,
     pub address: u32,
 }
 
 // The bytes that an instruction stores; width 0 is none.
-#[derive(Drop)]
+#[derive(Clone, Copy)]
 pub struct Store {
     pub width: u32,
     pub address: u32,
     pub value: u32,
 }
 
-#[derive(Drop)]
+#[derive(Clone, Copy)]
 pub struct Exception {
     pub cause: Cause,
     pub epcr: u32,
@@ -34,14 +34,14 @@ pub struct Exception {
 }
 
 // What becomes of MACHI and MACLO.
-#[derive(Drop)]
+#[derive(Clone, Copy)]
 pub enum Accumulated {
     Kept,
     Became(Accumulator),
 }
 
 // How a step ends.
-#[derive(Drop)]
+#[derive(Clone, Copy)]
 pub enum Outcome {
     Completed,
     Raised(Exception),
@@ -49,14 +49,14 @@ pub enum Outcome {
 
 // The numbers that every instruction of a run is given beside its core's state: how many cores there are, and how many bytes at the start of memory are
 // read-only. The list of vectors, which it is given too, is lent beside them: by value it would make every step dearer.
-#[derive(Drop)]
+#[derive(Clone, Copy)]
 pub struct Board {
     pub cores: u32,
     pub limit: u32,
 }
 
 // An instruction's fields, its registers' values, and its core's state before it.
-#[derive(Drop)]
+#[derive(Clone, Copy)]
 pub struct Inputs {
     pub core: u32,
     pub d: u32,
@@ -76,7 +76,7 @@ pub struct Inputs {
 
 // What an instruction does: the one word of its state that it writes besides SR, the flow, the link, the mode and the accumulator; its store; how it
 // ends.
-#[derive(Drop)]
+#[derive(Clone, Copy)]
 pub struct Effect {
     pub place: u32,
     pub value: u32,
@@ -90,7 +90,7 @@ pub struct Effect {
 }
 
 // What an instruction writes before it goes on or raises range: a word of its state, and SR.
-#[derive(Drop)]
+#[derive(Clone, Copy)]
 pub struct Written {
     pub place: u32,
     pub value: u32,
@@ -98,7 +98,7 @@ pub struct Written {
 }
 
 // A jump, with what it writes.
-#[derive(Drop)]
+#[derive(Clone, Copy)]
 pub struct Jumped {
     pub place: u32,
     pub value: u32,
@@ -106,14 +106,14 @@ pub struct Jumped {
 }
 
 // An exception that an instruction raises before it writes anything, and what EEAR becomes.
-#[derive(Drop)]
+#[derive(Clone, Copy)]
 pub struct Faulted {
     pub cause: Cause,
     pub eear: u32,
 }
 
 // What l.lwa loads, and from where.
-#[derive(Drop)]
+#[derive(Clone, Copy)]
 pub struct Linked {
     pub place: u32,
     pub value: u32,
@@ -121,7 +121,7 @@ pub struct Linked {
 }
 
 // What an instruction does, in as few words as say it: the rest of its effect follows from what it read.
-#[derive(Drop)]
+#[derive(Clone, Copy)]
 pub enum Action {
     Advance(Written),
     Jump(Jumped),

@@ -8,7 +8,7 @@ use refusal::cause;
 use refusal::cause::Refusal;
 use steps::counts::Counts;
 
-#[derive(Drop)]
+#[derive(Clone, Copy)]
 pub enum Answer {
     Ran(Counts),
     Refused(Refusal),

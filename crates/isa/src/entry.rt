@@ -4,7 +4,7 @@ ghost use Rattle.isa.specs.Entry.{fields_of};
 ghost use Rattle.isa.specs.Register.{Registers};
 ghost use Rattle.isa.specs.Inner.{packed};
 
-#[derive(Drop)]
+#[derive(Clone, Copy)]
 pub struct Fields {
     pub d: u8,
     pub a: u8,

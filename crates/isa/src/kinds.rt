@@ -7,7 +7,7 @@ ghost use Rattle.isa.specs.Inner.{place_at, form_at, shape_of, shape_in};
 use crate::groups::KINDS;
 
 // Where a word has its immediate.
-#[derive(Drop)]
+#[derive(Clone, Copy)]
 pub enum Place {
     None,
     Low5,
@@ -18,7 +18,7 @@ pub enum Place {
 }
 
 // How an entry keeps the immediate: zero-extended, sign-extended from 16 bits, or 4 times its signed 26 bits.
-#[derive(Drop)]
+#[derive(Clone, Copy)]
 pub enum Form {
     Zext,
     Sext,
@@ -26,7 +26,7 @@ pub enum Form {
 }
 
 // Which registers a word has, and its immediate.
-#[derive(Drop)]
+#[derive(Clone, Copy)]
 pub struct Shape {
     pub d: bool,
     pub a: bool,

@@ -2,7 +2,7 @@
 ghost use Rattle.std.specs.Prelude.{◌≡◌, ◌<◌, length};
 ghost use Rattle.isa.specs.Vectors.{vector_count, place_of, old_vectors, vector as vector_of};
 
-#[derive(Drop)]
+#[derive(Clone, Copy)]
 pub enum Cause {
     Bus,
     Alignment,

@@ -11,7 +11,7 @@ use effect::state;
 use effect::types::Flow;
 
 // What core 0 hands to the linked cores: the form that it fetched and completed, and its flow before and after.
-#[derive(Drop)]
+#[derive(Clone, Copy)]
 pub struct Lead {
     pub form: u64,
     pub before: Flow,

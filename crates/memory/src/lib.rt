@@ -7,7 +7,7 @@ ghost use Rattle.memory.specs.Memory.{Width, loaded, stored, cause_of, access};
 use isa::vectors::Cause;
 
 // What the test of an access says: it may go on, or it raises an exception.
-#[derive(Drop)]
+#[derive(Clone, Copy)]
 pub enum Access {
     Granted,
     Fault(Cause),

@@ -11,7 +11,7 @@ ghost use Rattle.product.specs.Accumulate.{number, holding, added, subtracted};
 use arith::Flagged;
 
 // MACHI and MACLO.
-#[derive(Drop)]
+#[derive(Clone, Copy)]
 pub struct Accumulator {
     pub high: u32,
     pub low: u32,

@@ -21,7 +21,7 @@ pub const CORE_ROOM: usize = 83 + REGISTERS * 13;
 const REFUSAL_ROOM: usize = 35;
 
 // How many bytes were written; or that the bytes lent are too few for the longest text, and nothing was written.
-#[derive(Drop)]
+#[derive(Clone, Copy)]
 pub enum Written {
     Bytes(usize),
     TooSmall,

@@ -14,7 +14,7 @@ use vectors_file::Source;
 const ROOM: usize = 65537;
 
 // How many bytes came; or that a read failed, which is not the end of the input.
-#[derive(Drop)]
+#[derive(Clone, Copy)]
 pub enum Input {
     Bytes(usize),
     Failed,
@@ -50,7 +50,7 @@ fn read_all<R: Read>(from: &mut R, buf: &mut [u8]) -> Input
 }
 
 // How the file of vectors was found, and how many of its bytes were read.
-#[derive(Drop)]
+#[derive(Clone, Copy)]
 pub struct Found {
     pub source: Source,
     pub bytes: usize,

@@ -10,7 +10,7 @@ use crate::Turn;
 use effect::types::Outcome;
 
 // How many entries were executed, how many of them raised an exception, and how many found their word in the decode cache.
-#[derive(Drop)]
+#[derive(Clone, Copy)]
 pub struct Counts {
     pub executed: u32,
     pub raised: u32,

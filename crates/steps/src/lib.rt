@@ -19,14 +19,14 @@ pub mod form;
 pub mod index;
 
 // An entry of the schedule: its core, and the levels of the lines.
-#[derive(Drop)]
+#[derive(Clone, Copy)]
 pub struct Scheduled {
     pub core: usize,
     pub lines: u32,
 }
 
 // What an entry of the schedule comes to.
-#[derive(Drop)]
+#[derive(Clone, Copy)]
 pub enum Turn {
     // Its core is not running.
     Idle,
@@ -68,7 +68,7 @@ fn instruction(
 }
 
 // How an entry of the schedule begins: its core does nothing, is interrupted, or executes a form (0: the one that it fetches).
-#[derive(Drop)]
+#[derive(Clone, Copy)]
 pub enum Start {
     Idle,
     Interrupt,

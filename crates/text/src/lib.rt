@@ -7,14 +7,14 @@ ghost use Rattle.text.specs.Lines.{begins as beginsOf, lines, entry_of};
 ghost use Rattle.text.specs.Inner.{line_end, found_in, Inside};
 
 // What a text says: a number, or nothing.
-#[derive(Drop)]
+#[derive(Clone, Copy)]
 pub enum Parsed {
     Number(u32),
     Nothing,
 }
 
 // Where a text was found: from a place up to another.
-#[derive(Drop)]
+#[derive(Clone, Copy)]
 pub enum Found {
     At(usize, usize),
     Missing,

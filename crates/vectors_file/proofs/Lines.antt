@@ -8,8 +8,8 @@ use lib.ListN.{length, take, drop, get_or, set, drop_of_length-le}
 use lib.Seq.{drop-cons, take-suc-set, take_all}
 use Rattle.text.specs.Ascii.{ascii}
 use Rattle.text.specs.Lines.{Line}
-use Rattle.card.specs.Card.{step, stop, first, Left, Verdict, refused}
-use Rattle.vectors_file.specs.File.{address, address_lines}
+use Rattle.card.specs.Card.{step, stop, first, Left, Verdict, refused, no_line_left}
+use Rattle.vectors_file.specs.File.{address, address_lines, distinct}
 
 -- the line of the key at place i
 module _ {B : Type 0} (keys : List String) (i : ℕ) (left : Left) (k : List ℕ → Left → Verdict B) where
@@ -25,6 +25,10 @@ module _ {B : Type 0} (keys : List String) (i : ℕ) (left : Left) (k : List ℕ
   pub lines_done : length keys ≤ i → address_lines (drop i keys) left k ≡ k [] left
   unfolding address_lines
   lines_done h = rw (drop_of_length-le keys)
+
+-- what follows the last line
+abbrev pub close : List ℕ → Left → Verdict (List ℕ)
+close vectors left = no_line_left left.rest left.next (distinct vectors)
 
 -- one address more is stored
 pub one_more : {A : Type 0} (f : List ℕ → A) (list : List ℕ) (i v : ℕ) → i < length list

@@ -15,21 +15,21 @@ use card::value::{Field, Rule};
 use isa::vectors::COUNT;
 
 // How the file was found: its bytes were read, there is none, or it is there and cannot be read.
-#[derive(Drop)]
+#[derive(Clone, Copy)]
 pub enum Source {
     Bytes,
     Absent,
     Unreadable,
 }
 
-#[derive(Drop)]
+#[derive(Clone, Copy)]
 pub enum Outcome {
     Good,
     Bad(Cause, u32),
 }
 
 // The list; or why the file is refused and at which line, and then the list is all zeros.
-#[derive(Drop)]
+#[derive(Clone, Copy)]
 pub struct Reading {
     pub outcome: Outcome,
     pub list: [u32; COUNT],

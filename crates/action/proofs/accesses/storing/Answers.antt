@@ -1,0 +1,4 @@
+use Rattle.action.proofs.accesses.storing.Goals as goal
+
+pub returns : goal.returns
+returns c = simp c.address.ensures

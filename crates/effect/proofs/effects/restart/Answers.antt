@@ -1,0 +1,11 @@
+use mathlib.Core.Path.{sym, ◌∙◌}
+use Rattle.effect.specs.Effect.{restart}
+use Rattle.effect.proofs.effects.restart.Goals as goal
+
+pub returns-then-in_slot : goal.returns-then-in_slot
+unfolding restart
+returns-then-in_slot c = simp (c.address_sub.ensures, sym c.in_slot.ensures ∙ c.if-in_slot.true)
+
+pub returns-else-in_slot : goal.returns-else-in_slot
+unfolding restart
+returns-else-in_slot c = simp (sym c.in_slot.ensures ∙ c.if-in_slot.false)
