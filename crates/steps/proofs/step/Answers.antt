@@ -1,0 +1,34 @@
+use mathlib.Core.Path.{sym, ap, ◌∙◌}
+use Prim.Native.Nat.{ℕ, ◌%◌}
+use native.Mathlib.Omega.{arith}
+use Rattle.effect.specs.Board.{board_with}
+use Rattle.effect.specs.State.{pc_at}
+use Rattle.steps.proofs.Cases.{begun_word, begun_length, fetch_undisturbed, step_idle, step_interrupted, step_executed}
+use Rattle.steps.proofs.step.Goals as goal
+
+pub instruction-requires : goal.instruction-requires
+instruction-requires c =
+    let a = c.args in
+    let begin = c.begin.ensures in
+    let executes = sym c.in-Execute.is ∙ begin.1 in
+    let n = begun_length a.states.now a.entry a.given begin.0 in
+    let pc = begun_word a.states.now a.entry a.given begin.0 pc_at (omega arith) (λ z. omega arith) in
+ record { state_words_in_bounds = omega (arith, n, c.requires.state_words_in_bounds); core_bound = c.requires.core_bound; core_value = fetch_undisturbed a.states.now a.entry a.given begin.0 executes; backed = c.requires.backed; pc_at_value = ap (λ (p : ℕ). p % 4) pc ∙ c.requires.pc_at_value; vectors_len = c.requires.vectors_len }
+
+pub returns-in-Idle : goal.returns-in-Idle
+returns-in-Idle c =
+    let a = c.args in
+    let begin = c.begin.ensures in
+    step_idle (board_with a.board a.vectors.now) a.memory.now a.states.now a.cache.now a.entry a.given begin.0 (sym c.in-Idle.is ∙ begin.1)
+
+pub returns-in-Interrupt : goal.returns-in-Interrupt
+returns-in-Interrupt c =
+    let a = c.args in
+    let begin = c.begin.ensures in
+    step_interrupted (board_with a.board a.vectors.now) a.memory.now a.states.now a.cache.now a.entry a.given begin.0 (sym c.in-Interrupt.is ∙ begin.1) (c.take.ensures a.memory.now)
+
+pub returns-in-Execute : goal.returns-in-Execute
+returns-in-Execute c =
+    let a = c.args in
+    let begin = c.begin.ensures in
+    step_executed (board_with a.board a.vectors.now) a.memory.now a.states.now a.cache.now a.entry a.given begin.0 (sym c.in-Execute.is ∙ begin.1) c.instruction.ensures
