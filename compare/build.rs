@@ -3,9 +3,9 @@
 use std::env;
 use std::path::{Path, PathBuf};
 
-/// Names the archive; without it, the one that rt writes is taken.
+/// Names the archive; without it, the one that tools/archive writes is taken.
 const VARIABLE: &str = "OR1K_ARCHIVE";
-const WRITTEN_BY_RT: &str = "../target/staticlib/libhost.a";
+const BUILT: &str = "../target/staticlib/libhost.a";
 
 fn main() {
     println!("cargo:rerun-if-env-changed={VARIABLE}");
@@ -16,10 +16,10 @@ fn main() {
 
 fn archive() -> PathBuf {
     let root = PathBuf::from(env::var_os("CARGO_MANIFEST_DIR").expect("cargo sets it"));
-    let path = root.join(env::var_os(VARIABLE).unwrap_or(WRITTEN_BY_RT.into()));
+    let path = root.join(env::var_os(VARIABLE).unwrap_or(BUILT.into()));
     if !path.is_file() {
         let path = path.display();
-        panic!("no archive at {path}: run `rt staticlib host` at the top of the repository, or name one in {VARIABLE}");
+        panic!("no archive at {path}: run `tools/archive` at the top of the repository, or name one in {VARIABLE}");
     }
     path
 }

@@ -1,4 +1,4 @@
-/* The engine's functions for C and C++; examples/run.rs declares the runs for Rust. Link with the archive that `rt staticlib host` writes.
+/* The engine's functions for C and C++; examples/run.rs declares the runs for Rust. Link with the archive that `tools/archive` writes.
  * Where a comment puts a word in brackets, documents 01 and 02 have that word for the thing. */
 #ifndef OR1K_H
 #define OR1K_H

@@ -3,7 +3,7 @@
 //! test's own, in which there is no file of vectors or one that the test puts there.
 //!
 //! The program is the one that the environment names in OR1K_RUNNER, or else
-//! the one that rt builds; without it the tests say so and are skipped. This
+//! the one that ./run builds; without it the tests say so and are skipped. This
 //! engine's own runner is always asked, which shows that the questions work.
 
 mod common;
@@ -29,14 +29,14 @@ use std::time::Duration;
 
 /// Names the program; a relative path starts at this package's folder.
 const VARIABLE: &str = "OR1K_RUNNER";
-const BUILT_BY_RT: &str = "../target/bin/runner";
+const BUILT: &str = "../target/bin/runner";
 const OWN: &str = env!("CARGO_BIN_EXE_runner");
 
 /// The program under test. One that is named must be there.
 fn under_test() -> Option<PathBuf> {
     let root = Path::new(env!("CARGO_MANIFEST_DIR"));
     let named = std::env::var_os(VARIABLE);
-    let path = root.join(named.clone().unwrap_or(BUILT_BY_RT.into()));
+    let path = root.join(named.clone().unwrap_or(BUILT.into()));
     if path.is_file() {
         // It is started elsewhere.
         return Some(path.canonicalize().expect("its whole path"));
@@ -56,7 +56,7 @@ fn programs(what: &str) -> Vec<Asked> {
     let found = under_test();
     match &found {
         Some(path) => show(&format!("{what}: asking {}", path.display())),
-        None => show(&format!("{what}: skipped, no {BUILT_BY_RT} and no {VARIABLE}; only this engine's own runner was asked")),
+        None => show(&format!("{what}: skipped, no {BUILT} and no {VARIABLE}; only this engine's own runner was asked")),
     }
     let folder = Path::new(env!("CARGO_TARGET_TMPDIR")).join("runner").join(what.replace(' ', "-"));
     let programs = found.into_iter().chain([PathBuf::from(OWN)]).enumerate();

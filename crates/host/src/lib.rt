@@ -1,5 +1,5 @@
 #![tactic(auto)]
-// What C and Rust programs call: plain numbers in and out.
+// What programs in other languages call, by the crate host_c: plain numbers in and out.
 ghost use Rattle.std.specs.Prelude.{◌≡◌};
 ghost use Rattle.isa.specs.InstructionSet.{decode};
 ghost use Rattle.codec.specs.Encoding.{number as number_of};
@@ -21,22 +21,19 @@ fn number(answer: Encoded) -> u64
     }
 }
 
-#[unsafe(no_mangle)]
-pub extern "C" fn or1k_decode(word: u32) -> u64
+pub fn or1k_decode(word: u32) -> u64
     ensures { result ≡ decode word }
 {
     codec::decoder::decode(word)
 }
 
-#[unsafe(no_mangle)]
-pub extern "C" fn or1k_encode(entry: u64) -> u64
+pub fn or1k_encode(entry: u64) -> u64
     ensures { Answers entry result }
 {
     number(codec::encoder::encode(entry))
 }
 
-#[unsafe(no_mangle)]
-pub extern "C" fn or1k_plain_run(
+pub fn or1k_plain_run(
     memory: &mut [u8],
     states: &mut [u32],
     schedule: &[u8],
@@ -49,8 +46,7 @@ pub extern "C" fn or1k_plain_run(
     engine::answer::pack(engine::plain::plain_run(memory, states, schedule, levels, limit, vectors))
 }
 
-#[unsafe(no_mangle)]
-pub extern "C" fn or1k_fast_run(
+pub fn or1k_fast_run(
     memory: &mut [u8],
     states: &mut [u32],
     schedule: &[u8],

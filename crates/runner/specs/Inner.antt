@@ -1,7 +1,8 @@
 -- Where the bytes that were read lie in the buffer, and how the file of vectors was found. Which bytes came, and what opening the file answered, nobody can
 -- say: examples/cards/check tries it.
-use Rattle.std.specs.Prelude.{List, ◌≡◌, ℕ, ◌+◌, ◌≤◌, eqb, ℤ, pos, negsuc, length, take}
-use Rattle.bits.specs.Choice.{if◌then◌else◌}
+use Rattle.std.specs.Prelude.{List, ◌≡◌, ℕ, ◌+◌, ◌≤◌, length, take}
+use Rattle.std.specs.declared.io.ErrorKind.{ErrorKind}
+use Rattle.std.specs.declared.io.ErrorKind.TheVariants.{NotFound}
 use Rattle.vectors_file.specs.declared.Source.{Source}
 use Rattle.vectors_file.specs.declared.Source.TheVariants as S
 use Rattle.runner.specs.declared.Input.{Input}
@@ -18,10 +19,10 @@ pub record More (at : ℕ) (buf buf' : List ℕ) (r : Input) : Type 0 where
   pub within : Within at buf' r
   pub kept : take at buf' ≡ take at buf
 
--- a file whose opening failed is absent by one error alone, ENOENT, which is 2
-abbrev pub unopened_by : ℤ → Source
-unopened_by (pos error) = if eqb error 2 then S.Absent else S.Unreadable
-unopened_by (negsuc n) = S.Unreadable
+-- a file whose opening failed is absent by one error alone, that there is no such file: std has this kind for ENOENT, which is 2, and for no other
+abbrev pub unopened_by : ErrorKind → Source
+unopened_by NotFound = S.Absent
+unopened_by _ = S.Unreadable
 
 -- a file that was opened has the bytes that came, or cannot be read
 abbrev pub opened_by : Input → Found

@@ -4,8 +4,10 @@
 ghost use Rattle.std.specs.Prelude.{◌≡◌, ◌≤◌, length};
 ghost use Rattle.runner.specs.Inner.{Within, More, unopened_by, opened_by};
 
-use libc::{STDERR_FILENO, STDIN_FILENO, STDOUT_FILENO};
 use report::Written;
+use std::fs;
+use std::io::{ErrorKind, Read};
+use std::rt::Files;
 use vectors_file::Source;
 
 // One byte more than a card or a file of vectors may have, so that a longer one is seen.
@@ -19,25 +21,24 @@ pub enum Input {
 }
 
 // One read into buf from `at` on; no bytes are the end of the input.
-fn read_more(fd: i32, buf: &mut [u8], at: usize) -> Input
+fn read_more<R: Read>(from: &mut R, buf: &mut [u8], at: usize) -> Input
     requires { at ≤ length buf.old }
     ensures { More at buf.old buf.new result }
 {
     let rest = &mut buf[at..];
-    let got = libc::read(fd, rest);
-    if got < 0 {
+    let Ok(got) = from.read(rest) else {
         return Input::Failed;
-    }
-    Input::Bytes(io::count(got, rest))
+    };
+    Input::Bytes(got)
 }
 
 // Reads until buf is full or the input ends. A read may hand over a part of what is still to come, so only one without bytes is the end.
-fn read_all(fd: i32, buf: &mut [u8]) -> Input
+fn read_all<R: Read>(from: &mut R, buf: &mut [u8]) -> Input
     ensures { Within 0 buf.new result }
 {
     let mut done = 0;
     while done < buf.len() {
-        let Input::Bytes(n) = read_more(fd, buf, done) else {
+        let Input::Bytes(n) = read_more(from, buf, done) else {
             return Input::Failed;
         };
         if n == 0 {
@@ -56,10 +57,10 @@ pub struct Found {
 }
 
 // A file that could not be opened. Only the error that there is no such file means that it is absent.
-fn unopened(error: i32) -> Source
+fn unopened(error: ErrorKind) -> Source
     ensures { result ≡ unopened_by error }
 {
-    if error == libc::ENOENT {
+    if error == ErrorKind::NotFound {
         return Source::Absent;
     }
     Source::Unreadable
@@ -82,27 +83,28 @@ fn opened(input: Input) -> Found
 }
 
 // The file `vectors` in the current directory.
-fn read_vectors(buf: &mut [u8]) -> Found
+fn read_vectors(rt: &impl Files, buf: &mut [u8]) -> Found
     ensures { result.bytes ≤ length buf.new }
 {
-    let fd = os::open_read(b"vectors");
-    if fd < 0 {
-        let source = unopened(os::errno());
-        return Found { source, bytes: 0 };
+    match fs::open(rt, "vectors") {
+        // It is closed before the card is read: if standard input is closed, this file has its number.
+        Ok(mut file) => opened(read_all(&mut file, buf)),
+        Err(error) => {
+            let source = unopened(error.kind());
+            Found { source, bytes: 0 }
+        }
     }
-    let input = read_all(fd, buf);
-    // Before the card is read: if standard input is closed, this file has its number.
-    libc::close(fd);
-    opened(input)
 }
 
 // Runs the card and writes all that it prints, or says that it could not.
-fn run(source: Source, file: &[u8], card: &[u8]) {
+fn run(rt: &HostRuntime, source: Source, file: &[u8], card: &[u8]) {
     let mut out = [0u8; play::ROOM];
     match play::run_card(source, file, card, &mut out) {
         Written::Bytes(n) => {
-            if !io::write_all(STDOUT_FILENO, &out[..n]) {
-                io::write_all(STDERR_FILENO, b"runner: the result could not be written\n");
+            if rt.stdout().write_all(&out[..n]).is_err() {
+                let _ = rt
+                    .stderr()
+                    .write_all(b"runner: the result could not be written\n");
             }
         }
         // Cannot be: the output has its room.
@@ -110,16 +112,18 @@ fn run(source: Source, file: &[u8], card: &[u8]) {
     }
 }
 
-fn main() {
+fn main(rt: HostRuntime) {
     let mut file = [0u8; ROOM];
-    let found = read_vectors(&mut file);
+    let found = read_vectors(&rt, &mut file);
     let source = found.source;
     let bytes = found.bytes;
     let mut card = [0u8; ROOM];
-    match read_all(STDIN_FILENO, &mut card) {
-        Input::Bytes(n) => run(source, &file[..bytes], &card[..n]),
+    match read_all(&mut rt.stdin(), &mut card) {
+        Input::Bytes(n) => run(&rt, source, &file[..bytes], &card[..n]),
         Input::Failed => {
-            io::write_all(STDERR_FILENO, b"runner: the card could not be read\n");
+            let _ = rt
+                .stderr()
+                .write_all(b"runner: the card could not be read\n");
         }
     }
 }
