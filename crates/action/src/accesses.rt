@@ -1,6 +1,5 @@
 // Loads, stores and the cache instructions: each tests its access first. Stores and l.swa are held against the limit of what is read-only.
-ghost use Rattle.std.specs.Prelude.{◌≡◌};
-ghost use Rattle.bits.specs.Choice.{if◌then◌else◌};
+ghost use Rattle.std.specs.Prelude.{◌≡◌, if◌then◌else◌};
 ghost use Rattle.bits.specs.Word.{bit};
 ghost use Rattle.memory.specs.Memory.{Width};
 ghost use Rattle.effect.specs.Effect.{unlinking, no_store};

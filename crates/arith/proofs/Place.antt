@@ -2,7 +2,7 @@
 use Rattle.std.proofs.Common.{◌≡◌, ℕ, zero, suc, ◌+◌, ◌-◌, ◌*◌, ◌/◌, ◌%◌, ◌^◌, ◌<◌, ◌≤◌, Bool, true, false, ltb, sym, refl, ap, ◌∙◌, lt_of_lt_of_le, add_comm, pow-suc, div-one, add-one, arith, pow_pos, pow_mono, shr-shr, ltb-false, ltb-true, lt-ltb, eq-eqb, ne_eqb}
 use native.Mathlib.Nat.{div-eq_of_lt, div-eq_of_lt-le}
 use lib.Count.{count_leading_zeros, count_trailing_zeros, leading_top, leading_of_zero, under}
-use Rattle.bits.specs.Choice.{if◌then◌else◌}
+use Rattle.std.specs.Prelude.{if◌then◌else◌}
 use Rattle.bits.specs.Word.{bit_at}
 use Rattle.arith.specs.Bit.{is_set}
 use Rattle.arith.specs.Place.{least, greatest}

@@ -1,6 +1,5 @@
 -- Compares.
-use Rattle.std.specs.Prelude.{ℕ, Bool, false, not, ◌==◌, int_le, int_lt, nat_le, nat_lt}
-use Rattle.bits.specs.Choice.{if◌then◌else◌}
+use Rattle.std.specs.Prelude.{ℕ, Bool, false, not, ◌==◌, int_le, int_lt, nat_le, nat_lt, if◌then◌else◌}
 use Rattle.bits.specs.Word.{signed}
 
 -- The compare at place n of the set-flag order holds of a and b; at any other place nothing does.

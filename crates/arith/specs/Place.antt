@@ -1,6 +1,5 @@
 -- The places of set bits.
-use Rattle.std.specs.Prelude.{ℕ, zero, suc, nat_lt}
-use Rattle.bits.specs.Choice.{if◌then◌else◌}
+use Rattle.std.specs.Prelude.{ℕ, zero, suc, nat_lt, if◌then◌else◌}
 use Rattle.arith.specs.Bit.{is_set}
 
 -- the least, and the greatest, of the places 1 to n of x whose bit is set; 0 if there is none.

@@ -1,7 +1,6 @@
 #![tactic(auto)]
 // Arithmetic on words, and the bits of SR.
-ghost use Rattle.std.specs.Prelude.{◌≡◌, ◌^◌, ◌<◌, bit_and, bit_or, bit_xor};
-ghost use Rattle.bits.specs.Choice.{if◌then◌else◌};
+ghost use Rattle.std.specs.Prelude.{◌≡◌, ◌^◌, ◌<◌, bit_and, bit_or, bit_xor, if◌then◌else◌};
 ghost use Rattle.bits.specs.Word.{bit, bit_at};
 ghost use Rattle.arith.specs.Bit.{is_set, set_bit};
 ghost use Rattle.arith.specs.Status.{IEE, F, CY, OVE, allowed, aligned, set_carry_overflow, exception_sr};

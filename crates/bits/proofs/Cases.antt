@@ -1,7 +1,7 @@
 -- A fact about a choice, from what holds in each of its cases. Assumes nothing.
 use Rattle.std.proofs.Common.{◌≡◌, ℕ, Bool, true, false, eqb, refl, eqb-true}
 use borrow.Author.Tests.{eqb-false}
-use Rattle.bits.specs.Choice.{if◌then◌else◌}
+use Rattle.std.specs.Prelude.{if◌then◌else◌}
 
 module _ {A : Type 0} (P : A → Type 0) where
   pub if_law : {e f : A} (b : Bool) → (b ≡ true → P e) → (b ≡ false → P f) → P (if b then e else f)

@@ -9,7 +9,7 @@ use borrow.Author.Tests.{leb-true, eqb-true}
 use lib.Dec.{T, eqb, ltb, leb}
 use lib.ListN.{length, take, drop, length-map, length-drop}
 use lib.Seq.{length-take-le}
-use Rattle.bits.specs.Choice.{if◌then◌else◌}
+use Rattle.std.specs.Prelude.{if◌then◌else◌}
 use Rattle.bits.proofs.Tests.{and_left, and_right, of_T, T_of}
 use Rattle.arith.specs.Status.{allowed}
 use Rattle.text.specs.Ascii.{ascii}

@@ -9,7 +9,7 @@ use native.Mathlib.Omega.{arith}
 use borrow.Author.Tests.{leb-true, eqb-true, le-leb, lt-leb}
 use lib.Dec.{eqb, leb, lit≤}
 use lib.ListN.{length, drop, length-drop, length-append, length-map}
-use Rattle.bits.specs.Choice.{if◌then◌else◌}
+use Rattle.std.specs.Prelude.{if◌then◌else◌}
 use Rattle.bits.proofs.Tests.{and_left, and_right, of_T, T_of}
 use Rattle.arith.specs.Status.{allowed, only}
 use Rattle.text.specs.Ascii.{ascii}

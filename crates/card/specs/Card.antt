@@ -1,7 +1,6 @@
 -- What a run card says: document 01, "The run card", and refusals 1, 9 and 10 of "Turned back"; document 02, note 7, on the line sr. A card is its bytes.
-use Rattle.std.specs.Prelude.{ℕ, zero, suc, ◌+◌, ◌/◌, ◌%◌, Bool, true, ◌&&◌, List, [], ◌∷◌, map, length, eqb, ltb, leb}
+use Rattle.std.specs.Prelude.{ℕ, zero, suc, ◌+◌, ◌/◌, ◌%◌, Bool, true, ◌&&◌, List, [], ◌∷◌, map, length, eqb, ltb, leb, if◌then◌else◌}
 use Prim.Native.String.{String}
-use Rattle.bits.specs.Choice.{if◌then◌else◌}
 use Rattle.arith.specs.Status.{allowed}
 use Rattle.text.specs.Ascii.{ascii}
 use Rattle.text.specs.Digits.{digit}

@@ -1,7 +1,6 @@
 -- Cards without the line sr, as they were taken until note 7 of document 02, for what it promises of them: "Cards taken until now lack the line and so meet 9 at
 -- line 4; with 00008001 put in, the printed run equals the earlier one." Nothing else uses this.
-use Rattle.std.specs.Prelude.{ℕ, zero, suc, List, [], ◌∷◌, ◌++◌, eqb, leb}
-use Rattle.bits.specs.Choice.{if◌then◌else◌}
+use Rattle.std.specs.Prelude.{ℕ, zero, suc, List, [], ◌∷◌, ◌++◌, eqb, leb, if◌then◌else◌}
 use Rattle.text.specs.Ascii.{ascii}
 use Rattle.card.specs.Card.{cores, memory, entry_address, steps, schedule, word_count, Left, line, word_lines, no_line_left, whole, Job, Verdict, good, refused}
 

@@ -1,7 +1,6 @@
 -- For the contracts of the functions that read a card. A place in the card stands for the lines from it on; the reader's moves are what it has reached after
 -- the header and after the rest. That they come to what the card says is a law (`proofs/Whole.antt`).
-use Rattle.std.specs.Prelude.{ℕ, ◌+◌, ◌/◌, ◌≤◌, ◌<◌, ◌≡◌, List, [], ◌∷◌, length, take, drop, get_or, set, replicate, eqb, leb}
-use Rattle.bits.specs.Choice.{if◌then◌else◌}
+use Rattle.std.specs.Prelude.{ℕ, ◌+◌, ◌/◌, ◌≤◌, ◌<◌, ◌≡◌, List, [], ◌∷◌, length, take, drop, get_or, set, replicate, eqb, leb, if◌then◌else◌}
 use Rattle.text.specs.Ascii.{ascii}
 use Rattle.text.specs.Numbers.{decimal, hexadecimal}
 use Rattle.text.specs.Lines.{lines}

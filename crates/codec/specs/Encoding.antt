@@ -1,6 +1,5 @@
 -- The encoder's answer: document 01, "Words and kinds", and refusal 8, "no 32-bit word decodes to the entry".
-use Rattle.std.specs.Prelude.{◌≡◌, ℕ, ◌^◌, ◌<◌, eqb}
-use Rattle.bits.specs.Choice.{if◌then◌else◌}
+use Rattle.std.specs.Prelude.{◌≡◌, ℕ, ◌^◌, ◌<◌, eqb, if◌then◌else◌}
 use Rattle.isa.specs.InstructionSet.{decode, candidate}
 use Rattle.codec.specs.declared.encoder.Encoded.{Encoded}
 use Rattle.codec.specs.declared.encoder.Encoded.TheVariants.{Word, Refused}

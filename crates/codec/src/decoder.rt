@@ -1,6 +1,5 @@
 // From a word to its entry: the kind by the opcode, then the fields that the kind has.
-ghost use Rattle.std.specs.Prelude.{◌≡◌, ◌≤◌, ◌<◌, ◌%◌, ◌^◌, eqb};
-ghost use Rattle.bits.specs.Choice.{if◌then◌else◌};
+ghost use Rattle.std.specs.Prelude.{◌≡◌, ◌≤◌, ◌<◌, ◌%◌, ◌^◌, eqb, if◌then◌else◌};
 ghost use Rattle.isa.specs.Groups.{kinds};
 ghost use Rattle.isa.specs.InstructionSet.{decode as decodeOf, immediate};
 ghost use Rattle.isa.specs.Register.{Register, Registers};

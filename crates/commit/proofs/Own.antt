@@ -10,7 +10,7 @@ use lib.ListN.{length, take, drop, get_or, set, length-set, length-drop, take-ap
 use borrow.Rule.Slice.PartMut.{put_mid}
 use lib.Seq.{length-take-le, get_or-take, get_or-drop, set-append_left}
 use Rattle.bits.proofs.Lists.{set_append_add}
-use Rattle.bits.specs.Choice.{if◌then◌else◌}
+use Rattle.std.specs.Prelude.{if◌then◌else◌}
 use Rattle.isa.specs.Register.{Registers}
 use Rattle.isa.specs.declared.entry.Fields.{Fields}
 use Rattle.effect.specs.State.{state_words, pc_at, delay_at, target_at, sr_at, epcr_at, eear_at, esr_at, link_at, link_address_at, mode_at, machi_at, maclo_at, picmr_at, picsr_at}

@@ -8,7 +8,7 @@ use lib.Dec.{eqb, leb}
 use lib.ListN.{length, get_or, set}
 use lib.Seq.{set-get_or}
 use borrow.Author.Tests.{eq-eqb, ne_eqb, le-leb, lt-leb, leb-true, leb-false}
-use Rattle.bits.specs.Choice.{if◌then◌else◌}
+use Rattle.std.specs.Prelude.{if◌then◌else◌}
 use Rattle.effect.specs.Board.{Board}
 use Rattle.decode_cache.specs.Cache.{form_at, filled, cached_form}
 use Rattle.decode_cache.specs.Inner.{Backed, fetched_of, fetch_at, cache_after}

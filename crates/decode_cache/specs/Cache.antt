@@ -1,6 +1,5 @@
 -- The entries of the decode cache, the paper's table: document 01, "What is lent" and "Fast run".
-use Rattle.std.specs.Prelude.{List, ℕ, eqb, get_or}
-use Rattle.bits.specs.Choice.{if◌then◌else◌}
+use Rattle.std.specs.Prelude.{List, ℕ, eqb, get_or, if◌then◌else◌}
 use Rattle.isa.specs.InstructionSet.{decode}
 use Rattle.memory.specs.Memory.{memory_word}
 use Rattle.effect.specs.Board.{Board}

@@ -1,6 +1,5 @@
 -- Helper of the code: what a fetch answers, and what it leaves of the cache.
-use Rattle.std.specs.Prelude.{List, ℕ, ◌+◌, ◌*◌, ◌/◌, ◌≤◌, leb, length, get_or, set}
-use Rattle.bits.specs.Choice.{if◌then◌else◌}
+use Rattle.std.specs.Prelude.{List, ℕ, ◌+◌, ◌*◌, ◌/◌, ◌≤◌, leb, length, get_or, set, if◌then◌else◌}
 use Rattle.effect.specs.Board.{Board}
 use Rattle.decode_cache.specs.Cache.{filled, cached_form}
 use Rattle.decode_cache.specs.declared.Fetched.{Fetched}

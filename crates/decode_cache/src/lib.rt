@@ -1,7 +1,6 @@
 #![tactic(auto)]
 // The decode cache: what a fetch finds in it, and what a store empties. A word outside the cache is decoded each time.
-ghost use Rattle.std.specs.Prelude.{◌≡◌, ◌+◌, ◌*◌, ◌/◌, ◌%◌, ◌^◌, ◌≤◌, ◌<◌, eqb, length, get_or, set};
-ghost use Rattle.bits.specs.Choice.{if◌then◌else◌};
+ghost use Rattle.std.specs.Prelude.{◌≡◌, ◌+◌, ◌*◌, ◌/◌, ◌%◌, ◌^◌, ◌≤◌, ◌<◌, eqb, length, get_or, set, if◌then◌else◌};
 ghost use Rattle.effect.specs.Board.{Board};
 ghost use Rattle.decode_cache.specs.Cache.{form_at};
 ghost use Rattle.decode_cache.specs.Inner.{Backed, fetch_at, cache_after};

@@ -1,7 +1,6 @@
 -- What an instruction may do: document 01, "One instruction" and its vectors; document 02, notes 2 and 4. What each operation does of it stands in action/specs/Operations.
 -- An instruction reads x : Inputs (its fields, its registers' values and its core's state before it) and has an Effect.
-use Rattle.std.specs.Prelude.{Bool, ℕ, eqb}
-use Rattle.bits.specs.Choice.{if◌then◌else◌}
+use Rattle.std.specs.Prelude.{Bool, ℕ, eqb, if◌then◌else◌}
 use Rattle.bits.specs.Word.{bit}
 use Rattle.isa.specs.declared.vectors.Cause.{Cause}
 use Rattle.isa.specs.declared.vectors.Cause.TheVariants.{Bus, Alignment, Illegal, Range, Syscall, Trap, Interrupt}

@@ -1,6 +1,5 @@
 -- A run's answer and what it leaves of all that is lent, for every input: document 01, "Turned back", and demand 3.
-use Rattle.std.specs.Prelude.{List, [], ◌≡◌, ℕ, ◌+◌, ◌*◌, ◌^◌, eqb}
-use Rattle.bits.specs.Choice.{if◌then◌else◌}
+use Rattle.std.specs.Prelude.{List, [], ◌≡◌, ℕ, ◌+◌, ◌*◌, ◌^◌, eqb, if◌then◌else◌}
 use Rattle.refusal.specs.Lent.{Lent, Left, board_of}
 use Rattle.refusal.specs.Refusal.{max_schedule, plain_refusal, fast_refusal, refusal_number}
 use Rattle.steps.specs.Counts.{no_counts, AtMost}

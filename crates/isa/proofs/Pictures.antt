@@ -10,7 +10,7 @@ use lib.Pow.{pow_mono, high, low, mod-mod-pow}
 use lib.Pow as pow
 use lib.Dec.{T, eqb, ltb, eqb→eq, ltb→lt, lt→ltb}
 use lib.ListN.{length}
-use Rattle.bits.specs.Choice.{if◌then◌else◌}
+use Rattle.std.specs.Prelude.{if◌then◌else◌}
 use Rattle.bits.specs.Word.{bit_at}
 use Rattle.bits.proofs.Tests.{and_left, and_right, and_both}
 use Rattle.isa.specs.InstructionSet.{Field, D, A, B, I, Mark, must, of, reserved, Row, same_field, fits, width, read, entry, fill}

@@ -11,7 +11,7 @@ use lib.Pow as pow
 use lib.Dec.{T, eqb, leb, ltb, eqb→eq, eqb_refl, leb→le, ltb→lt, T_not}
 use lib.ListN.{length}
 use borrow.Author.Tests.{eq-eqb, ne_eqb}
-use Rattle.bits.specs.Choice.{if◌then◌else◌}
+use Rattle.std.specs.Prelude.{if◌then◌else◌}
 use Rattle.bits.specs.Word.{field, bit_at}
 use Rattle.bits.proofs.Tests.{and_left, and_right, everywhere, equal_but}
 use Rattle.isa.specs.Groups.{kinds}

@@ -8,7 +8,7 @@ use native.Mathlib.Omega.{arith}
 use lib.Pow.{pow_pos, pow-add, mod-pow-add, shr-shr}
 use lib.Dec.{T, eqb, ltb, eqb→eq, ltb→lt}
 use lib.ListN.{length, get_or}
-use Rattle.bits.specs.Choice.{if◌then◌else◌}
+use Rattle.std.specs.Prelude.{if◌then◌else◌}
 use Rattle.bits.specs.Word.{field, bit_at}
 use Rattle.bits.proofs.Tests.{and_left, and_right, within, all_entries, at_entry}
 use Rattle.isa.specs.Groups.{kinds}

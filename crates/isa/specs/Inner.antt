@@ -1,7 +1,6 @@
 -- How the decoder and the encoder cut the instruction set into parts: the kind by a few bits, the shape of a kind, the place of the immediate.
 -- The instruction set itself is InstructionSet.antt; that these parts are its is proved (proofs/Rows.antt, Shapes.antt).
-use Rattle.std.specs.Prelude.{Bool, false, ◌&&◌, List, [], ◌∷◌, ℕ, ◌+◌, ◌-◌, ◌*◌, ◌/◌, ◌%◌, ◌^◌, eqb, leb, ltb}
-use Rattle.bits.specs.Choice.{if◌then◌else◌}
+use Rattle.std.specs.Prelude.{Bool, false, ◌&&◌, List, [], ◌∷◌, ℕ, ◌+◌, ◌-◌, ◌*◌, ◌/◌, ◌%◌, ◌^◌, eqb, leb, ltb, if◌then◌else◌}
 use Rattle.bits.specs.Word.{field}
 use Rattle.isa.specs.InstructionSet as set
 use Rattle.isa.specs.InstructionSet.{Mark, must, of, reserved, Row, rows, first_fit, same_field, width, immediate, pack, immediate_bits}

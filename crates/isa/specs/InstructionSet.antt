@@ -1,9 +1,8 @@
 -- The instruction set: document 01, "Words and kinds", in its order, and document 02, note 2 (refusal 8 stands in Encoding).
-use Rattle.std.specs.Prelude.{Bool, true, false, ◌&&◌, List, [], ◌∷◌, ℕ, suc, ◌+◌, ◌*◌, ◌/◌, ◌^◌, eqb, pos, ◌*ℤ◌, length}
+use Rattle.std.specs.Prelude.{Bool, true, false, ◌&&◌, List, [], ◌∷◌, ℕ, suc, ◌+◌, ◌*◌, ◌/◌, ◌^◌, eqb, pos, ◌*ℤ◌, length, if◌then◌else◌}
 use Prim.Native.Char.{Char, code}
 use Prim.Native.String as text
 use Prim.Native.String.{String}
-use Rattle.bits.specs.Choice.{if◌then◌else◌}
 use Rattle.bits.specs.Word.{field, bit_at, word, signed}
 
 -- "Fields: D 25–21, A 20–16, B 15–11, I 15–0; stores, l.swa, l.mtspr and p.* split I over 25–21 and 10–0."

@@ -1,6 +1,5 @@
 // The number of a register: a byte below 32, from the bits that name it to the word of a state that it is.
-ghost use Rattle.std.specs.Prelude.{◌≡◌, ◌%◌};
-ghost use Rattle.bits.specs.Choice.{if◌then◌else◌};
+ghost use Rattle.std.specs.Prelude.{◌≡◌, ◌%◌, if◌then◌else◌};
 ghost use Rattle.isa.specs.Register.{Register};
 
 // The number in the low five bits of x.

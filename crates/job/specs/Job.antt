@@ -1,7 +1,6 @@
 -- What the card reader answers and leaves, and what a good job starts from: document 01, "The run card", "Turned back" and "What is lent".
-use Rattle.std.specs.Prelude.{ℕ, zero, suc, ◌+◌, ◌%◌, List, [], ◌∷◌, ◌++◌, length, get_or, set, replicate, eqb}
+use Rattle.std.specs.Prelude.{ℕ, zero, suc, ◌+◌, ◌%◌, List, [], ◌∷◌, ◌++◌, length, get_or, set, replicate, eqb, if◌then◌else◌}
 use Rattle.std.proofs.lemmas.List.Edits.{sets}
-use Rattle.bits.specs.Choice.{if◌then◌else◌}
 use Rattle.memory.specs.Memory.{stored}
 use Rattle.effect.specs.State.{state_words, pc_at, sr_at, esr_at, mode_at, picmr_at, running}
 use Rattle.card.specs.Card.{Job, Verdict, good, refused, image_fault, card_says}

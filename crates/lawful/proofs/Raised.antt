@@ -7,7 +7,7 @@ use native.Mathlib.Omega.{arith}
 use lib.Dec.{T, eqb, ltb}
 use lib.ListN.{length, length-set}
 use borrow.Author.Tests.{ne_eqb, le-ltb, eqb-true, not-true}
-use Rattle.bits.specs.Choice.{if◌then◌else◌}
+use Rattle.std.specs.Prelude.{if◌then◌else◌}
 use Rattle.bits.proofs.Tests.{of_T, T_of}
 use Rattle.bits.proofs.Cases.{if_law, if_both, by_equality}
 use Rattle.arith.specs.Bit.{is_set}

@@ -1,6 +1,6 @@
 -- What linked cores leave: lengths, accepted states, entries that are their words' forms, and memory below the limit as it was. Assumes nothing.
 use Rattle.std.proofs.Common.{◌≡◌, ℕ, zero, suc, ◌<◌, ◌≤◌, Bool, true, false, T, eqb, List, [], ◌∷◌, length, get_or, refl, ◌∙◌, le_refl, arith, length-set}
-use Rattle.bits.specs.Choice.{if◌then◌else◌}
+use Rattle.std.specs.Prelude.{if◌then◌else◌}
 use Rattle.bits.proofs.Cases.{if_both, by_equality}
 use Rattle.isa.specs.Entry.{fields_of}
 use Rattle.isa.specs.Groups.{IsBranch}

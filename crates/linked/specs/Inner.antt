@@ -1,6 +1,5 @@
 -- What the parts of a run with linked cores promise one another. Nothing here is the papers': Linked and Run have that.
-use Rattle.std.specs.Prelude.{◌≡◌, ℕ, zero, suc, ◌+◌, ◌-◌, ◌<◌, Bool, true, false, ◌&&◌, ◌||◌, List, [], ◌==◌, ◌≢◌}
-use Rattle.bits.specs.Choice.{if◌then◌else◌}
+use Rattle.std.specs.Prelude.{◌≡◌, ℕ, zero, suc, ◌+◌, ◌-◌, ◌<◌, Bool, true, false, ◌&&◌, ◌||◌, List, [], ◌==◌, ◌≢◌, if◌then◌else◌}
 use Rattle.effect.specs.State.{mode_at, halted, linked}
 use Rattle.commit.specs.Commit.{word_at, put, core_count}
 use Rattle.lawful.specs.Inner.{LawfulFlow}

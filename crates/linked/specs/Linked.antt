@@ -2,8 +2,7 @@
 -- registers; a linked core's own entry does nothing." What an entry does to its own core stands in steps/specs/Plain and Fast, where a core in mode 1 is not
 -- running. What the linked cores do then stands here: the same instruction (semantics/specs/Meaning) on the inputs below, committed as any other but for PC, delay,
 -- target and mode.
-use Rattle.std.specs.Prelude.{ℕ, zero, suc, Bool, ◌||◌, List, ◌==◌, nat_eq}
-use Rattle.bits.specs.Choice.{if◌then◌else◌}
+use Rattle.std.specs.Prelude.{ℕ, zero, suc, Bool, ◌||◌, List, ◌==◌, nat_eq, if◌then◌else◌}
 use Rattle.isa.specs.Entry.{kind_of_entry, fields_of}
 use Rattle.effect.specs.State.{pc_at, delay_at, target_at, mode_at, halted, linked}
 use Rattle.effect.specs.Board.{Board}

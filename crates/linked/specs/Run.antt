@@ -1,6 +1,5 @@
 -- Both runs, with linked cores: document 01, "Plain run", "Fast run" and "History"; document 02, notes 4 to 6 and 8.
-use Rattle.std.specs.Prelude.{ℕ, ◌-◌, Bool, ◌&&◌, List, [], ◌∷◌, ◌==◌}
-use Rattle.bits.specs.Choice.{if◌then◌else◌}
+use Rattle.std.specs.Prelude.{ℕ, ◌-◌, Bool, ◌&&◌, List, [], ◌∷◌, ◌==◌, if◌then◌else◌}
 use Rattle.effect.specs.Board.{Board}
 use Rattle.commit.specs.Commit.{core_count}
 use Rattle.decode_cache.specs.Cache.{form_at, cached_form}

@@ -4,7 +4,7 @@ use mathlib.Core.Bool.{xor}
 use native.Mathlib.Nat.{zero-div, div-zero}
 use lib.Signed.{quot_z}
 use borrow.Author.Tests.{lt-leb}
-use Rattle.bits.specs.Choice.{if◌then◌else◌}
+use Rattle.std.specs.Prelude.{if◌then◌else◌}
 use Rattle.bits.specs.Word.{bit, signed, word}
 use Rattle.bits.proofs.Extend.{signed_low, signed_high, by_half}
 use Rattle.arith.specs.Sums.{fits}

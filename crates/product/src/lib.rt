@@ -1,8 +1,7 @@
 #![tactic(auto)]
 // Products, quotients, and the accumulator that products are added to.
-ghost use Rattle.std.specs.Prelude.{◌≡◌, ◌*◌, ◌^◌, ◌<◌, not, pos, neg_ℤ, nat_le, nat_lt, unsigned_abs};
+ghost use Rattle.std.specs.Prelude.{◌≡◌, ◌*◌, ◌^◌, ◌<◌, not, pos, neg_ℤ, nat_le, nat_lt, unsigned_abs, if◌then◌else◌};
 ghost use Rattle.std.specs.Bool.{xor};
-ghost use Rattle.bits.specs.Choice.{if◌then◌else◌};
 ghost use Rattle.bits.specs.Word.{bit, signed, modulo, word};
 ghost use Rattle.arith.specs.Sums.{fits};
 ghost use Rattle.product.specs.Product.{product, product_unsigned, quotient, quotient_unsigned};

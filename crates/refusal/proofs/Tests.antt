@@ -9,7 +9,7 @@ use lib.Dec.{T, ltb, ltb→lt}
 use borrow.Author.Tests.{ltb-true, ltb-false}
 use lib.ListN.{length, get_or, take, drop, drop_of_length-le}
 use lib.Seq.{drop-cons}
-use Rattle.bits.specs.Choice.{if◌then◌else◌}
+use Rattle.std.specs.Prelude.{if◌then◌else◌}
 use Rattle.bits.proofs.Tests.{and_left, and_right, and_both, of_T}
 use Rattle.effect.specs.State.{state_words, pc_at, delay_at, target_at, sr_at, epcr_at, esr_at, link_at, link_address_at, mode_at, picmr_at, all, rules}
 use Rattle.effect.specs.Board.{Board}

@@ -1,6 +1,5 @@
 -- What the parts of the tests promise one another. Nothing here is document 01's: Refusal has that.
-use Rattle.std.specs.Prelude.{Bool, ◌||◌, not, List, [], ◌∷◌, ℕ, eqb, ltb}
-use Rattle.bits.specs.Choice.{if◌then◌else◌}
+use Rattle.std.specs.Prelude.{Bool, ◌||◌, not, List, [], ◌∷◌, ℕ, eqb, ltb, if◌then◌else◌}
 
 -- one of the rules on a state
 abbrev pub unset_is_zero : ℕ → ℕ → Bool

@@ -1,7 +1,6 @@
 -- What a run refuses (the paper's "turned back"): document 01, "What is lent" and "Turned back"; document 02, notes 4 to 6 and 8. The rules on a list of
 -- vectors stand in vector_list/specs/Rules.
-use Rattle.std.specs.Prelude.{Bool, true, ◌&&◌, ◌||◌, List, [], ◌∷◌, ◌++◌, ℕ, ◌+◌, ◌/◌, ◌%◌, eqb, leb, ltb, length}
-use Rattle.bits.specs.Choice.{if◌then◌else◌}
+use Rattle.std.specs.Prelude.{Bool, true, ◌&&◌, ◌||◌, List, [], ◌∷◌, ◌++◌, ℕ, ◌+◌, ◌/◌, ◌%◌, eqb, leb, ltb, length, if◌then◌else◌}
 use Rattle.bits.specs.Every.{every_below}
 use Rattle.vector_list.specs.Rules.{vectors_fit}
 use Rattle.effect.specs.State.{state_words}

@@ -1,6 +1,5 @@
 // The rule on the schedule's entries.
-ghost use Rattle.std.specs.Prelude.{◌≡◌, ◌≤◌, ltb};
-ghost use Rattle.bits.specs.Choice.{if◌then◌else◌};
+ghost use Rattle.std.specs.Prelude.{◌≡◌, ◌≤◌, ltb, if◌then◌else◌};
 ghost use Rattle.refusal.specs.Refusal.{names_cores};
 ghost use Rattle.refusal.specs.Inner.{greatest as greatestOf};
 

@@ -1,6 +1,5 @@
 -- What the two writers answer, and what they leave in the bytes that the caller lends.
-use Rattle.std.specs.Prelude.{List, ◌++◌, ℕ, ◌+◌, ◌*◌, ltb, length, drop}
-use Rattle.bits.specs.Choice.{if◌then◌else◌}
+use Rattle.std.specs.Prelude.{List, ◌++◌, ℕ, ◌+◌, ◌*◌, ltb, length, drop, if◌then◌else◌}
 use Rattle.report.specs.Result.{registers}
 use Rattle.report.specs.declared.Written.{Written}
 use Rattle.report.specs.declared.Written.TheVariants.{Bytes, TooSmall}

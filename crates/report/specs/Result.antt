@@ -1,8 +1,7 @@
 -- The printed result of a run: document 01, "The run card", "prints counts, a line for each core, its registers other than 0 in rising order,
 -- then `end`; a bad card prints `refused=9 line=3`".
-use Rattle.std.specs.Prelude.{List, [], ◌∷◌, ◌++◌, ℕ, zero, suc, ◌/◌, eqb, length, get_or, take, drop}
+use Rattle.std.specs.Prelude.{List, [], ◌∷◌, ◌++◌, ℕ, zero, suc, ◌/◌, eqb, length, get_or, take, drop, if◌then◌else◌}
 use Prim.Native.String.{String}
-use Rattle.bits.specs.Choice.{if◌then◌else◌}
 use Rattle.effect.specs.State.{state_words, pc_at, delay_at, sr_at, mode_at}
 use Rattle.steps.specs.declared.counts.Counts.{Counts}
 use Rattle.text.specs.Ascii.{ascii}

@@ -1,8 +1,7 @@
 -- What each kind does, a line a kind, in the order of document 01's "Words and kinds" and document 02's note 2, by the groups of isa/specs/Groups.antt. k is the kind, x what the
 -- instruction reads.
-use Rattle.std.specs.Prelude.{true, false, not, List, [], ◌∷◌, ℕ, ◌-◌, eqb, ltb, length}
+use Rattle.std.specs.Prelude.{true, false, not, List, [], ◌∷◌, ℕ, ◌-◌, eqb, ltb, length, if◌then◌else◌}
 use Rattle.std.specs.Int.Bits.{bit_and, bit_or, bit_xor}
-use Rattle.bits.specs.Choice.{if◌then◌else◌}
 use Rattle.bits.specs.Word.{bit_at, extend}
 use Rattle.isa.specs.Entry.{kind_of_entry, fields_of}
 use Rattle.isa.specs.Groups.{first_nop_movhi, first_control, first_load, first_add_immediate, first_immediate, first_compare_immediate, first_store, first_arithmetic, first_logic, first_compare, first_cache, first_product}

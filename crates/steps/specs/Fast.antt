@@ -1,8 +1,7 @@
 -- An entry of the fast run, for its own core (linked cores: linked/specs/Run): document 01, "Fast run"; document 02, notes 4 and 6. It is defined for every
 -- decode cache (the paper's table): also where an entry is not its word's form, which refusal 7 keeps out of runs, and for an empty cache, with which it is the
 -- plain run's.
-use Rattle.std.specs.Prelude.{List, ℕ, ◌+◌, get_or, set}
-use Rattle.bits.specs.Choice.{if◌then◌else◌}
+use Rattle.std.specs.Prelude.{List, ℕ, ◌+◌, get_or, set, if◌then◌else◌}
 use Rattle.effect.specs.Board.{Board}
 use Rattle.effect.specs.declared.types.Effect.{Effect}
 use Rattle.commit.specs.Commit.{writes_memory, touched, raised_by}

@@ -1,7 +1,6 @@
 -- The history of the plain run, for the decode cache (the paper's table) lent to the fast one, what an entry adds for its own core (linked cores:
 -- linked/specs/Run): document 01, "History"; document 02, note 4. Cached is the paper's held.
-use Rattle.std.specs.Prelude.{List, [], ◌∷◌, ℕ, ◌+◌, eqb, get_or, set}
-use Rattle.bits.specs.Choice.{if◌then◌else◌}
+use Rattle.std.specs.Prelude.{List, [], ◌∷◌, ℕ, ◌+◌, eqb, get_or, set, if◌then◌else◌}
 use Rattle.effect.specs.Board.{Board}
 use Rattle.decode_cache.specs.Cache.{form_at, filled}
 use Rattle.steps.specs.Plain.{Plain, is_running, latching, fetched, is_fetch, plain_effect}

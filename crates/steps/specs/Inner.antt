@@ -1,6 +1,5 @@
 -- What the parts of the step promise one another. Nothing here is the papers': Plain, Fast and History have that, and linked/specs/Linked has the linked cores.
-use Rattle.std.specs.Prelude.{Bool, ◌&&◌, not, List, [], ◌∷◌, ◌≡◌, ℕ, ◌+◌, ◌<◌, ◌≤◌, eqb, length, get_or}
-use Rattle.bits.specs.Choice.{if◌then◌else◌}
+use Rattle.std.specs.Prelude.{Bool, ◌&&◌, not, List, [], ◌∷◌, ◌≡◌, ℕ, ◌+◌, ◌<◌, ◌≤◌, eqb, length, get_or, if◌then◌else◌}
 use Rattle.isa.specs.InstructionSet.{decode}
 use Rattle.isa.specs.Vectors.{vector_count}
 use Rattle.effect.specs.State.{mode_at, picsr_at, linked, running}

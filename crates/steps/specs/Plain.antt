@@ -1,6 +1,5 @@
 -- An entry of the plain run, for its own core: document 01, "Plain run"; document 02, notes 4 to 6. The whole run, linked cores included, is linked/specs/Run.
-use Rattle.std.specs.Prelude.{Bool, ◌&&◌, not, List, [], ◌∷◌, ℕ, ◌+◌, ◌/◌, eqb, leb, length}
-use Rattle.bits.specs.Choice.{if◌then◌else◌}
+use Rattle.std.specs.Prelude.{Bool, ◌&&◌, not, List, [], ◌∷◌, ℕ, ◌+◌, ◌/◌, eqb, leb, length, if◌then◌else◌}
 use Rattle.effect.specs.State.{pc_at, mode_at, running}
 use Rattle.effect.specs.Board.{Board}
 use Rattle.effect.specs.declared.types.Effect.{Effect}

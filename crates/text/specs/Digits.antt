@@ -1,6 +1,5 @@
 -- Digits as characters: document 01, "The run card", "eight lower-case hexadecimal digits; other numbers at most seven decimal digits".
-use Rattle.std.specs.Prelude.{ℕ, zero, suc, ◌+◌, ltb, eqb}
-use Rattle.bits.specs.Choice.{if◌then◌else◌}
+use Rattle.std.specs.Prelude.{ℕ, zero, suc, ◌+◌, ltb, eqb, if◌then◌else◌}
 
 -- the character of the digit d, below 16: 0 to 9, then a to f
 abbrev pub glyph : ℕ → ℕ

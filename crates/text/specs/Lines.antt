@@ -1,6 +1,5 @@
 -- Lines of text: document 01, "The run card", "Key=value lines, each ended by one line feed".
-use Rattle.std.specs.Prelude.{ℕ, Bool, true, false, ◌&&◌, List, [], ◌∷◌, length, drop, eqb}
-use Rattle.bits.specs.Choice.{if◌then◌else◌}
+use Rattle.std.specs.Prelude.{ℕ, Bool, true, false, ◌&&◌, List, [], ◌∷◌, length, drop, eqb, if◌then◌else◌}
 
 -- a line's bytes without its line feed, or last bytes that no line feed ends
 pub data Line : Type 0 where

@@ -1,6 +1,5 @@
 -- Numbers as text: document 01, "The run card".
-use Rattle.std.specs.Prelude.{ℕ, ◌+◌, ◌*◌, Bool, ◌&&◌, not, List, [], ◌∷◌, length, get_or, eqb, ltb, leb}
-use Rattle.bits.specs.Choice.{if◌then◌else◌}
+use Rattle.std.specs.Prelude.{ℕ, ◌+◌, ◌*◌, Bool, ◌&&◌, not, List, [], ◌∷◌, length, get_or, eqb, ltb, leb, if◌then◌else◌}
 use Rattle.text.specs.Digits.{glyph, digit}
 use Rattle.text.specs.declared.Parsed.{Parsed}
 use Rattle.text.specs.declared.Parsed.TheVariants.{Number, Nothing}

@@ -9,7 +9,7 @@ use lib.Dec.{T, eqb, ltb, eqb→eq}
 use lib.ListN.{length, get_or}
 use Rattle.bits.specs.Every.{every_below}
 use Rattle.bits.proofs.Every.{below_at, of_below}
-use Rattle.bits.specs.Choice.{if◌then◌else◌}
+use Rattle.std.specs.Prelude.{if◌then◌else◌}
 use Rattle.bits.proofs.Cases.{by_equality}
 use Rattle.bits.proofs.Tests.{and_left, and_right, and_both, of_T, T_of}
 use borrow.Author.Tests.{eq-eqb, ne_eqb}

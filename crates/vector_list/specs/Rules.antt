@@ -1,6 +1,5 @@
 -- The rules on a list of vectors: document 02, note 6.
-use Rattle.std.specs.Prelude.{Bool, ◌&&◌, not, List, ℕ, zero, suc, ◌+◌, ◌%◌, eqb, ltb, length, get_or}
-use Rattle.bits.specs.Choice.{if◌then◌else◌}
+use Rattle.std.specs.Prelude.{Bool, ◌&&◌, not, List, ℕ, zero, suc, ◌+◌, ◌%◌, eqb, ltb, length, get_or, if◌then◌else◌}
 use Rattle.bits.specs.Every.{every_below}
 use Rattle.isa.specs.Vectors.{vector_count}
 

@@ -1,8 +1,7 @@
 -- What the file named `vectors` says: document 02, note 6. "It is read before the card, under the card's form and length rules; faults are 9 and 10 and print
 -- alike."
-use Rattle.std.specs.Prelude.{ℕ, ◌+◌, ◌-◌, List, [], ◌∷◌, map}
+use Rattle.std.specs.Prelude.{ℕ, ◌+◌, ◌-◌, List, [], ◌∷◌, map, if◌then◌else◌}
 use Prim.Native.String.{String}
-use Rattle.bits.specs.Choice.{if◌then◌else◌}
 use Rattle.isa.specs.Vectors.{causes, old_vectors, vector_count}
 use Rattle.isa.specs.declared.vectors.Cause.{Cause}
 use Rattle.isa.specs.declared.vectors.Cause.TheVariants.{Bus, Alignment, Illegal, Range, Syscall, Trap, Interrupt}
