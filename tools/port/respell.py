@@ -69,6 +69,10 @@ for name in sorted((n for n in own if is_odd(n)), key=lambda n: ("-" in n, n)):
         continue
     names[name] = new + ENDING if new in taken or new in names.values() else new
 
+# names that the patterns above don't find: one with a level, and the names that imports give
+for name in ("unlessRefused", "refusalIn", "coresOf", "returnsOf", "toldVectors", "answeredVectors"):
+    names[name] = snake(name)
+
 TOKEN = re.compile(r"(?<![A-Za-z0-9_'-])[a-z][A-Za-z0-9_'₀₁₂₃₄₅₆₇₈₉-]*")
 
 

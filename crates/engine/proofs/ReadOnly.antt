@@ -10,11 +10,11 @@ use Rattle.refusal.specs.Refusal.{plain_refusal, fast_refusal}
 use Rattle.steps.specs.Plain.{Plain, scheduled_by}
 use Rattle.linked.specs.Run.{start, plain_run}
 use Rattle.linked.proofs.Agree.{from_keeps}
-use Rattle.engine.specs.Answer.{unlessRefused, PlainAnswer, FastAnswer}
+use Rattle.engine.specs.Answer.{unless_refused, PlainAnswer, FastAnswer}
 use Rattle.engine.specs.declared.answer.Answer.{Answer}
 
 module _ (l : Lent) (x : Left) (r : Answer) (j : ℕ) (h : j < l.limit) where
-  kept : (refusal : ℕ) → get_or (unlessRefused refusal (plain_run l) (start l)).memory j 0 ≡ get_or l.memory j 0
+  kept : (refusal : ℕ) → get_or (unless_refused refusal (plain_run l) (start l)).memory j 0 ≡ get_or l.memory j 0
   unfolding plain_run
   kept refusal =
       if_both (λ (p : Plain). get_or p.memory j 0 ≡ get_or l.memory j 0) (eqb refusal 0) (from_keeps (board_of l) j h (scheduled_by l) (start l)) refl

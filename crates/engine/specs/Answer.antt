@@ -29,13 +29,13 @@ packed_answer a = number a * 2 ^ 60 + (counts_of a).reused * 2 ^ 40 + (counts_of
 -- ---- what is left
 
 -- a where nothing is refused; b where something is: "counts are then 0. .. Nothing lent is written."
-abbrev pub unlessRefused {ℓ} : {A : Type ℓ} → ℕ → A → A → A
-unlessRefused refusal a b = if eqb refusal 0 then a else b
+abbrev pub unless_refused : {A : Type 0} → ℕ → A → A → A
+unless_refused refusal a b = if eqb refusal 0 then a else b
 
 -- the plain run of l answers r and leaves x; "reused (0 in the plain run)"
 pub record PlainAnswer (l : Lent) (x : Left) (r : Answer) : Type 0 where
   pub refusal : number r ≡ plain_refusal l
-  pub left : plain_of x (counts_of r) ≡ unlessRefused (plain_refusal l) (plain_run l) (start l)
+  pub left : plain_of x (counts_of r) ≡ unless_refused (plain_refusal l) (plain_run l) (start l)
   pub none_reused : (counts_of r).reused ≡ 0
   pub small : AtMost max_schedule (counts_of r)
 
@@ -56,8 +56,8 @@ again l x = record { memory = x.memory; states = x.states; schedule = []; levels
 -- links allowed" (links: cores in mode 1)
 pub record FastAnswer (l : Lent) (cache : List ℕ) (x : Left) (cache' : List ℕ) (r : Answer) : Type 0 where
   pub refusal : number r ≡ fast_refusal l cache
-  pub left : plain_of x (counts_of r) ≡ unlessRefused (fast_refusal l cache) (plain_run l) (start l)
-  pub cache_left_lem : cache' ≡ unlessRefused (fast_refusal l cache) (cache_left l cache) cache
-  pub reused_count : (counts_of r).reused ≡ unlessRefused (fast_refusal l cache) (history l cache).reused 0
+  pub left : plain_of x (counts_of r) ≡ unless_refused (fast_refusal l cache) (plain_run l) (start l)
+  pub cache_left_lem : cache' ≡ unless_refused (fast_refusal l cache) (cache_left l cache) cache
+  pub reused_count : (counts_of r).reused ≡ unless_refused (fast_refusal l cache) (history l cache).reused 0
   pub small : AtMost max_schedule (counts_of r)
   pub accepted_again : fast_refusal l cache ≡ 0 → fast_refusal (again l x) cache' ≡ 0

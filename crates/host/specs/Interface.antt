@@ -4,7 +4,7 @@ use Rattle.isa.specs.InstructionSet.{decode}
 use Rattle.codec.specs.Encoding.{encode, number}
 use Rattle.refusal.specs.Lent.{Lent, Left}
 use Rattle.steps.specs.declared.counts.Counts.{Counts}
-use Rattle.engine.specs.Answer.{number as refusalIn, counts_of, packed_answer, PlainAnswer, FastAnswer}
+use Rattle.engine.specs.Answer.{number as refusal_in, counts_of, packed_answer, PlainAnswer, FastAnswer}
 use Rattle.engine.specs.declared.answer.Answer.{Answer}
 
 -- ---- words and entries
@@ -29,7 +29,7 @@ unpacked_counts r = record { executed = r % 2 ^ 20; raised = r / 2 ^ 20 % 2 ^ 20
 -- r is the answer as one number, and its four parts are the answer's: packing loses nothing
 pub record Packs (answer : Answer) (r : ℕ) : Type 0 where
   pub exact : r ≡ packed_answer answer
-  pub refusal : unpacked_refusal r ≡ refusalIn answer
+  pub refusal : unpacked_refusal r ≡ refusal_in answer
   pub counts : unpacked_counts r ≡ counts_of answer
 
 -- What or1k_plain_run promises of its number r and of what it leaves: all that the plain run promises of its answer (crate engine,

@@ -37,7 +37,7 @@ use Rattle.report.specs.declared.Written.TheVariants.{Bytes, TooSmall}
 use Rattle.report.proofs.Room.{too_small}
 use Rattle.vector_list.specs.Rules.{vectors_fit}
 use Rattle.vectors_file.specs.File.{File, vectors_say}
-use Rattle.vectors_file.specs.Answer.{told_of, told as toldVectors, answered as answeredVectors}
+use Rattle.vectors_file.specs.Answer.{told_of, told as told_vectors, answered as answered_vectors}
 use Rattle.vectors_file.specs.declared.Reading as vectors
 use Rattle.vectors_file.specs.declared.Outcome.{Outcome}
 use Rattle.vectors_file.specs.declared.Outcome.TheVariants as outcome
@@ -118,7 +118,7 @@ printed_as {out = out} {out' = out'} {r = r} e p = subst (λ (t : List ℕ). Pri
 
 -- ---- a file of vectors that was read
 
-module _ (file : File) (r : vectors.Reading) (h : toldVectors r ≡ answeredVectors (vectors_say file)) where
+module _ (file : File) (r : vectors.Reading) (h : told_vectors r ≡ answered_vectors (vectors_say file)) where
   file_says : {o : Outcome} → r.outcome ≡ o → vectors_say file ≡ told_of o r.list
   file_says e = sym (ap (λ (p : Verdict (List ℕ) × List ℕ). p.0) h) ∙ ap (λ (o : Outcome). told_of o r.list) e
 

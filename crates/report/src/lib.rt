@@ -4,7 +4,7 @@ ghost use Rattle.std.specs.Prelude.{◌≡◌, ◌++◌, ◌+◌, ◌≤◌, len
 ghost use Rattle.effect.specs.State.{state_words};
 ghost use Rattle.print.specs.Digits.{decimal};
 ghost use Rattle.print.specs.Inner.{Put};
-ghost use Rattle.report.specs.Result.{line_feed, count_lines, core_line, register_line, register_lines, core_text, core_texts, cores as coresOf, result_text, refusal_text};
+ghost use Rattle.report.specs.Result.{line_feed, count_lines, core_line, register_line, register_lines, core_text, core_texts, cores as cores_of, result_text, refusal_text};
 ghost use Rattle.report.specs.Answer.{answer, written, counts_room, result_room, refusal_room};
 
 use effect::state::{DELAY, MODE, PC, SR, STATE_WORDS};
@@ -92,8 +92,8 @@ fn put_core(out: &mut [u8], at: usize, core: u64, state: &[u32]) -> usize
 }
 
 fn put_cores(out: &mut [u8], at: usize, states: &[u32]) -> usize
-    requires { at + length (core_texts 0 (coresOf states.now) states.now) ≤ length out.old }
-    ensures { Put out.old at (core_texts 0 (coresOf states.now) states.now) out.new result }
+    requires { at + length (core_texts 0 (cores_of states.now) states.now) ≤ length out.old }
+    ensures { Put out.old at (core_texts 0 (cores_of states.now) states.now) out.new result }
 {
     let cores = states.len() / STATE_WORDS;
     let mut next = at;
@@ -108,8 +108,8 @@ fn put_cores(out: &mut [u8], at: usize, states: &[u32]) -> usize
 
 // A run's counts, its cores with their registers, and `end`. Words of states after the last whole state are not read.
 pub fn write_result(out: &mut [u8], counts: Counts, states: &[u32]) -> Written
-    ensures answered { result ≡ answer (result_room (coresOf states.now)) (result_text counts states.now) out.old }
-    ensures left { out.new ≡ written (result_room (coresOf states.now)) (result_text counts states.now) out.old }
+    ensures answered { result ≡ answer (result_room (cores_of states.now)) (result_text counts states.now) out.old }
+    ensures left { out.new ≡ written (result_room (cores_of states.now)) (result_text counts states.now) out.old }
 {
     let cores = states.len() / STATE_WORDS;
     if out.len() < ENDS_ROOM {
