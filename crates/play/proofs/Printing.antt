@@ -20,7 +20,7 @@ use Rattle.engine.specs.declared.answer.Answer.{Answer}
 use Rattle.engine.specs.declared.answer.Answer.TheVariants.{Ran, Refused}
 use Rattle.engine.proofs.Answers.{fast_runnable}
 use Rattle.text.proofs.Stores.{take_sets}
-use Rattle.card.specs.Card.{Job, Verdict, good, card_says}
+use Rattle.card.specs.Card.{Verdict, good, card_says}
 use Rattle.card.specs.Answer.{refusal, told, answered, job_at, Bounds}
 use Rattle.card.specs.declared.Cause.{Cause}
 use Rattle.card.specs.declared.Job as code
