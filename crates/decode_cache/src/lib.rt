@@ -47,7 +47,7 @@ fn form(memory: &[u8], k: usize, entry: u64) -> u64
 // The form of the word at pc: its entry, which is filled if it was empty; or 0 if the word is outside memory. A filled entry is of a word inside.
 pub fn fetch(memory: &[u8], cache: &mut [u64], pc: usize) -> Fetched
     requires backed { Backed cache.old memory.now }
-    requires pc_value { (pc % 4 ≡ 0) × (pc < 2 ^ 32) }
+    requires word_address { (pc % 4 ≡ 0) × (pc < 2 ^ 32) }
     ensures { (board : Board) → (result ≡ fetch_at board memory.now cache.old pc) × (cache.new ≡ cache_after board memory.now cache.old pc) }
 {
     let k = pc / 4;

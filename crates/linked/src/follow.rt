@@ -41,7 +41,7 @@ fn execute(
     lead: Lead,
 )
     requires follows { Follows (unscheduled memory.old states.old limit vectors.now) cache.old core lead }
-    requires lead_value { reads_nothing (lead_kind lead) ≡ false }
+    requires reads_state { reads_nothing (lead_kind lead) ≡ false }
     ensures { Followed (unscheduled memory.old states.old limit vectors.now) cache.old core lead memory.new states.new cache.new }
 {
     let base = core * state::STATE_WORDS;

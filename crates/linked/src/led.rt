@@ -99,7 +99,7 @@ fn entry(
 // The counts of both.
 fn added(counts: Counts, more: Counts) -> Counts
     requires at_most { AtMost max_schedule counts }
-    requires at_most_2 { AtMost 1 more }
+    requires more_at_most { AtMost 1 more }
     ensures { result ≡ added_to counts more }
 {
     Counts {

@@ -50,7 +50,7 @@ fn print_run(
     cache: &mut [u64],
     out: &mut [u8],
 ) -> Written
-    requires cache_value { fast_refusal (lent memory.old states.old schedule.now levels.now 0 vectors.now) cache.old ≡ 0 }
+    requires accepted { fast_refusal (lent memory.old states.old schedule.now levels.now 0 vectors.now) cache.old ≡ 0 }
     requires output_room_in_bounds { output_room ≤ length out.old }
     ensures { Printed (run_text (lent memory.old states.old schedule.now levels.now 0 vectors.now) cache.old) out.old out.new result }
 {
@@ -65,7 +65,7 @@ fn print_run(
 fn print_job(vectors: &[u32], card: &[u8], job: Job, image: &mut [u8], out: &mut [u8]) -> Written
     requires ready { Ready card.now job image.old }
     requires output_room_in_bounds { output_room ≤ length out.old }
-    requires t { T (vectors_fit vectors.now) }
+    requires vectors_listed { T (vectors_fit vectors.now) }
     ensures { Printed (job_text vectors.now (job_at card.now job)) out.old out.new result }
 {
     let mut states = [0u32; STATES];
@@ -92,7 +92,7 @@ fn print_job(vectors: &[u32], card: &[u8], job: Job, image: &mut [u8], out: &mut
 // A card, once the list of vectors is good.
 fn print_card(vectors: &[u32], card: &[u8], out: &mut [u8]) -> Written
     requires output_room_in_bounds { output_room ≤ length out.old }
-    requires t { T (vectors_fit vectors.now) }
+    requires vectors_listed { T (vectors_fit vectors.now) }
     ensures { Printed (card_text card.now vectors.now) out.old out.new result }
 {
     let mut image = [0u8; job::IMAGE];

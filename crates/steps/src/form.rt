@@ -21,7 +21,7 @@ pub fn is_given(mode: u32, given: u64) -> bool
 // A form that is given, or, if that is 0, the one that is fetched.
 pub fn next(memory: &[u8], cache: &mut [u64], pc: usize, given: u64) -> Fetched
     requires backed { Backed cache.old memory.now }
-    requires pc_value { (pc % 4 ≡ 0) × (pc < 2 ^ 32) }
+    requires word_address { (pc % 4 ≡ 0) × (pc < 2 ^ 32) }
     ensures { (board : Board) → Taken board memory.now cache.old pc given result cache.new }
 {
     if given != 0 {

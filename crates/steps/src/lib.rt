@@ -49,9 +49,9 @@ fn instruction(
 ) -> Turn
     requires state_words_in_bounds { core * state_words + state_words ≤ length states.old }
     requires core_bound { core < 4 }
-    requires core_value { form ≡ 0 → is_interrupted states.old core ≡ false }
+    requires not_interrupted { form ≡ 0 → is_interrupted states.old core ≡ false }
     requires backed { Backed cache.old memory.old }
-    requires pc_at_value { word_at states.old core pc_at % 4 ≡ 0 }
+    requires pc_aligned { word_at states.old core pc_at % 4 ≡ 0 }
     requires vectors_len { length vectors.now ≡ vector_count }
     ensures { Entered (board_with board vectors.now) memory.old states.old cache.old core form memory.new states.new cache.new result }
 {
@@ -112,7 +112,7 @@ fn step(
     requires state_words_in_bounds { entry.core * state_words + state_words ≤ length states.old }
     requires core_bound { entry.core < 4 }
     requires backed { Backed cache.old memory.old }
-    requires pc_at_value { word_at states.old entry.core pc_at % 4 ≡ 0 }
+    requires pc_aligned { word_at states.old entry.core pc_at % 4 ≡ 0 }
     requires undisturbed { word_at states.old entry.core mode_at ≡ straight → Undisturbed states.old entry }
     requires vectors_len { length vectors.now ≡ vector_count }
     ensures { Stepped (board_with board vectors.now) memory.old states.old cache.old entry given memory.new states.new cache.new result }
@@ -208,7 +208,7 @@ pub fn execute_form(
     form: u64,
 ) -> bool
     requires runnable { Runnable (lent memory.old states.old (core ∷ []) (0 ∷ []) limit vectors.now) cache.old }
-    requires mode_at_value { word_at states.old core mode_at ≡ linked }
+    requires mode_linked { word_at states.old core mode_at ≡ linked }
     requires form { IsForm form }
     ensures { FormExecuted (lent memory.old states.old (core ∷ []) (0 ∷ []) limit vectors.now) cache.old core form memory.new states.new cache.new result }
 {

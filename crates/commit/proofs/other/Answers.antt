@@ -14,7 +14,7 @@ commit_state-outcome-requires c =
     let a = c.args in
     let p = c.requires in
     let x = c.inputs_at-x.ensures in
- record { state_words_in_bounds = p.committable.0.0; place_lt_state_words = placed_as (c.effect_by.ensures ∙ ap (λ (x : Inputs). effect_by x a.action) x) p.committable.1.place_lt; vectors_len = p.vectors_len }
+    record { state_words_in_bounds = p.committable.0.0; place_lt_state_words = placed_as (c.effect_by.ensures ∙ ap (λ (x : Inputs). effect_by x a.action) x) p.committable.1.place_lt; vectors_len = p.vectors_len }
 
 pub put_store-requires : goal.put_store-requires
 put_store-requires c =

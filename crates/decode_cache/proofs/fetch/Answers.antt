@@ -10,7 +10,7 @@ pub form-requires : goal.form-requires
 form-requires c =
     let a = c.args in
     let p = c.requires in
-    let inside = filled_is_inside (record { cores = 0; limit = 0; vectors = [] }) a.memory.now a.cache.now a.pc p.backed p.pc_value.0 (λ z. c.if-old-ne0.true (c.entry_of-old.ensures ∙ z)) in
+    let inside = filled_is_inside (record { cores = 0; limit = 0; vectors = [] }) a.memory.now a.cache.now a.pc p.backed p.word_address.0 (λ z. c.if-old-ne0.true (c.entry_of-old.ensures ∙ z)) in
     omega (arith, inside)
 
 pub returns-then-old-ne0 : goal.returns-then-old-ne0
@@ -20,7 +20,7 @@ returns-then-old-ne0 c =
     let q = c.entry_of-old.ensures in
     let n = c.if-old-ne0.true in
     λ board.
-    let inside = filled_is_inside board a.memory.now a.cache.now a.pc p.backed p.pc_value.0 (λ z. n (q ∙ z)) in
+    let inside = filled_is_inside board a.memory.now a.cache.now a.pc p.backed p.word_address.0 (λ z. n (q ∙ z)) in
     at_inside board a.memory.now a.cache.now a.pc inside
     (form_fetched_lem board a.memory.now a.cache.now (a.pc / 4) q (c.form.ensures board) (filled_found board a.memory.now a.cache.now (a.pc / 4) q n))
     (filled_kept board a.memory.now a.cache.now (a.pc / 4) q n)

@@ -16,7 +16,7 @@ unfolding effect_by raises
 commit_state-requires c =
     let a = c.args in
     let n = a.core * state_words + state_words - a.core * state_words in
- record { state_words_in_bounds = mid_words a.states.now a.core c.requires.state_words_in_bounds n (omega arith); place_lt_state_words = placed_as c.fault_effect.ensures (omega arith); vectors_len = c.requires.vectors_len }
+    record { state_words_in_bounds = mid_words a.states.now a.core c.requires.state_words_in_bounds n (omega arith); place_lt_state_words = placed_as c.fault_effect.ensures (omega arith); vectors_len = c.requires.vectors_len }
 
 pub returns : goal.returns
 unfolding effect_by inputs raises

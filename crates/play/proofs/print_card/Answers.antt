@@ -14,7 +14,7 @@ slice_bounds-print_job-end c = sym (c.read_job.auto.image ∙ length_zeros image
 pub print_job-requires : goal.print_job-requires
 print_job-requires c =
     let read = c.read_job in
-    record { ready = ready (length_zeros image_length) read.ensures c.in-Good.job c.in-Good.is (read.auto.image ∙ length_zeros image_length); output_room_in_bounds = omega arith; t = c.requires.t }
+    record { ready = ready (length_zeros image_length) read.ensures c.in-Good.job c.in-Good.is (read.auto.image ∙ length_zeros image_length); output_room_in_bounds = omega arith; vectors_listed = c.requires.vectors_listed }
 
 pub returns-in-Good : goal.returns-in-Good
 returns-in-Good c =

@@ -6,7 +6,7 @@ pub returns-then-out-lt-ROOM : goal.returns-then-out-lt-ROOM
 returns-then-out-lt-ROOM c = no_room _ _ (omega arith)
 
 pub print_card-requires : goal.print_card-requires
-print_card-requires c = record { output_room_in_bounds = omega arith; t = list_fits _ _ c.read-reading.ensures c.in-Good.is }
+print_card-requires c = record { output_room_in_bounds = omega arith; vectors_listed = list_fits _ _ c.read-reading.ensures c.in-Good.is }
 
 pub returns-in-Good : goal.returns-in-Good
 returns-in-Good c =

@@ -30,13 +30,13 @@ step-turn-requires c =
     let core = c.of_u8 in
     let h : core.result < core_count l.states = omega (arith, n, core.ensures, l.invariant.4) in
     let accepted = l.invariant.6 core.result h in
-    let straight = c.straight_mode-straight.ensures in record { state_words_in_bounds = omega arith; core_bound = omega arith; backed = omega (arith, p.runnable.backed, l.invariant.3, l.invariant.5); pc_at_value = accepted.flow_lawful.pc_multiple; undisturbed = (λ q. straight_undisturbed _ _ _ _ l.i refl accepted.mode_lawful (λ z. l.invariant.8 z core.result h) (q ∙ straight)); vectors_len = p.runnable.seven_vectors }
+    let straight = c.straight_mode-straight.ensures in record { state_words_in_bounds = omega arith; core_bound = omega arith; backed = omega (arith, p.runnable.backed, l.invariant.3, l.invariant.5); pc_aligned = accepted.flow_lawful.pc_multiple; undisturbed = (λ q. straight_undisturbed _ _ _ _ l.i refl accepted.mode_lawful (λ z. l.invariant.8 z core.result h) (q ∙ straight)); vectors_len = p.runnable.seven_vectors }
 
 pub counted-counts-requires : goal.counted-counts-requires
 counted-counts-requires c =
     let step = c.step-turn in
     let once = turn_once _ _ _ _ _ _ in
- record { at_most = record { executed_le = omega arith; raised_le = omega arith; reused_le = omega arith }; reused_once = subst ReusedOnce (sym step.ensures.turn) once }
+    record { at_most = record { executed_le = omega arith; raised_le = omega arith; reused_le = omega arith }; reused_once = subst ReusedOnce (sym step.ensures.turn) once }
 
 pub loop-i-preserved : goal.loop-i-preserved
 loop-i-preserved c =

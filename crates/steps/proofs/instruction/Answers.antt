@@ -30,7 +30,7 @@ returns-then-f-eq0 c =
     let out = found_outside b mem a.cache.now pc.result fetch.0 fetch.1 none in
     entered_fetched b mem a.states.now a.cache.now a.core z
     (subst left (sym out.cache)
-    (entered_outside b mem a.states.now a.cache.now a.core (p.core_value z) (omega (arith, out.outside, pc.ensures.0)) (fault.ensures mem))))
+    (entered_outside b mem a.states.now a.cache.now a.core (p.not_interrupted z) (omega (arith, out.outside, pc.ensures.0)) (fault.ensures mem))))
     (λ n. absurd (n (sym (ap (λ (f : Fetched). f.entry) (taken_given b mem a.cache.now pc.result next n).0) ∙ none)))
 
 pub returns : goal.returns
@@ -54,7 +54,7 @@ returns c =
     let e = executed_as (ap (effect_of b mem s a.core) entry) executed in
     let k = ap (λ (p : ℕ). p / 4) pc.ensures.0 in
     entered_fetched b mem s cache a.core z
-    (entered_inside b mem s cache a.core _ k (p.core_value z) (omega (arith, in_memory.inside, pc.ensures.0)) in_memory.cache e emptied (ap (λ (f : Fetched). f.reused) in_memory.found)))
+    (entered_inside b mem s cache a.core _ k (p.not_interrupted z) (omega (arith, in_memory.inside, pc.ensures.0)) in_memory.cache e emptied (ap (λ (f : Fetched). f.reused) in_memory.found)))
     (λ n.
     let given = taken_given b mem cache pc.result next n in
     let entry = ap (λ (f : Fetched). f.entry) given.0 in

@@ -13,7 +13,7 @@ instruction-requires c =
     let executes = sym c.in-Execute.is ∙ begin.1 in
     let n = begun_length a.states.now a.entry a.given begin.0 in
     let pc = begun_word a.states.now a.entry a.given begin.0 pc_at (omega arith) (λ z. omega arith) in
- record { state_words_in_bounds = omega (arith, n, c.requires.state_words_in_bounds); core_bound = c.requires.core_bound; core_value = fetch_undisturbed a.states.now a.entry a.given begin.0 executes; backed = c.requires.backed; pc_at_value = ap (λ (p : ℕ). p % 4) pc ∙ c.requires.pc_at_value; vectors_len = c.requires.vectors_len }
+    record { state_words_in_bounds = omega (arith, n, c.requires.state_words_in_bounds); core_bound = c.requires.core_bound; not_interrupted = fetch_undisturbed a.states.now a.entry a.given begin.0 executes; backed = c.requires.backed; pc_aligned = ap (λ (p : ℕ). p % 4) pc ∙ c.requires.pc_aligned; vectors_len = c.requires.vectors_len }
 
 pub returns-in-Idle : goal.returns-in-Idle
 returns-in-Idle c =

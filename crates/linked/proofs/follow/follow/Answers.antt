@@ -7,7 +7,7 @@ pub execute-requires : goal.execute-requires
 execute-requires c =
     let r = c.in_default.in_default-own.rest in
     let small : c.args.lead.form < 2 ^ 64 = omega (arith, c.struct_known-1.given) in
- record { follows = c.requires; lead_value = reads_own c.args.lead.form small r.0.0.1 r.0.1 r.1 }
+    record { follows = c.requires; reads_state = reads_own c.args.lead.form small r.0.0.1 r.0.1 r.1 }
 
 pub returns-in-13 : goal.returns-in-13
 returns-in-13 c =

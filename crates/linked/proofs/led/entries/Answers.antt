@@ -30,7 +30,7 @@ added-counts-requires c =
     let a = l.invariant.1 in
     let h = c.loop-i-test.true in
     let p = c.requires.few_entries in
- record { at_most = record { executed_le = omega arith; raised_le = omega arith; reused_le = omega arith }; at_most_2 = c.entry-more.ensures.once }
+    record { at_most = record { executed_le = omega arith; raised_le = omega arith; reused_le = omega arith }; more_at_most = c.entry-more.ensures.once }
 
 pub loop-i-preserved : goal.loop-i-preserved
 loop-i-preserved c =
