@@ -76,7 +76,7 @@ pub print_run-requires : goal.print_run-requires
 print_run-requires c =
     let a = c.args in
     let b = c.requires.ready.bounds in
- record { accepted = lent_accepted a.vectors.now c.requires.vectors_listed a.card.now a.job a.image.now _ _ _ _ c.requires.ready (omega arith) c.reset.ensures (omega arith) c.schedule.ensures; output_room_in_bounds = c.requires.output_room_in_bounds }
+    record { accepted = lent_accepted a.vectors.now c.requires.vectors_listed a.card.now a.job a.image.now _ _ _ _ c.requires.ready (omega arith) c.reset.ensures (omega arith) c.schedule.ensures; output_room_in_bounds = c.requires.output_room_in_bounds }
 
 pub returns : goal.returns
 returns c =
