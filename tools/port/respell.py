@@ -3,7 +3,8 @@
 
     python3 tools/port/respell.py [ROOT]
 
-It was run once, directly after the kit's port.py (docs/PORT.md). Names of the kit (what a file imports from elsewhere), functions of src/ and text stay.
+It was run once, directly after the kit's port.py (docs/PORT.md); the six names near the end were turned later, and stand here so that a run on the older
+tree gives today's spelling. Names of the kit (what a file imports from elsewhere), functions of src/ and text stay.
 """
 import glob
 import re

@@ -34,6 +34,7 @@ fn put_entry(cache: &mut [u64], k: usize, entry: u64)
 }
 
 // The form of word k that is executed: its entry as it stands, or, where that is empty, its word's form.
+#[tactic(auto, unfolding(crate::specs::Cache::form_at))]
 fn form(memory: &[u8], k: usize, entry: u64) -> u64
     requires { 4 * k + 4 ≤ length memory.now }
     ensures { (board : Board) → result ≡ (if eqb entry 0 then form_at board memory.now k else entry) }

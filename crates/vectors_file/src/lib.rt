@@ -56,6 +56,7 @@ fn bad(cause: Cause, line: u32) -> Reading
 }
 
 // With no such file the old list holds. One that cannot be read is refused, and not passed over.
+#[tactic(auto, unfolding(crate::specs::File::vectors_say))]
 pub fn read(source: Source, file: &[u8]) -> Reading
     ensures { told result ≡ answered (vectors_say (file_of source file.now)) }
 {
