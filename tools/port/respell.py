@@ -1,7 +1,7 @@
 #!/usr/bin/env python3
 """Spells this repository's definitions and lemmas as today's Rattle does: words in snake case, types and modules as they are.
 
-    python3 tools/port/respell.py [ROOT]
+    python3 tools/port/respell.py [ROOT] [--list]      with --list it prints the names, old and new, and writes nothing
 
 It was run once, directly after the kit's port.py (docs/PORT.md); the six names near the end were turned later, and stand here so that a run on the older
 tree gives today's spelling. Names of the kit (what a file imports from elsewhere), functions of src/ and text stay.
@@ -10,7 +10,7 @@ import glob
 import re
 import sys
 
-ROOT = sys.argv[1] if len(sys.argv) > 1 else "."
+ROOT = ([a for a in sys.argv[1:] if a != "--list"] or ["."])[0]
 IDENT = r"[^\s(){}\[\],.;:λ→⌜⌝=\"`@∀∃∙≡×+*/%^<>≤|?]+"
 # two names that would be one: the lemma, written with dashes, gets the ending that the kit's rules name
 ENDING = "_lem"
@@ -106,6 +106,11 @@ def write(path, text):
             f.write(text)
 
 
+if "--list" in sys.argv:
+    for name, new in sorted(names.items()):
+        print(name, new)
+    sys.exit()
+
 for path in ANTT:
     write(path, turned_file(path, "--"))
 for path in RT:
@@ -114,6 +119,3 @@ for path in EDITS:
     write(path, "\n".join(turned(line, set()) if line.startswith(("old:", "new:")) else line for line in read(path).split("\n")))
 for path in PAGES:
     write(path, re.sub(r"`[^`\n]*`", lambda m: turned(m[0], set()), read(path)))
-if "--list" in sys.argv:
-    for name, new in sorted(names.items()):
-        print(name, new)
