@@ -2,7 +2,7 @@
 use Rattle.std.proofs.Common.{◌≡◌, ℕ, zero, suc, ◌+◌, ◌-◌, ◌*◌, ◌/◌, ◌%◌, ◌^◌, ◌<◌, ◌≤◌, pos, negsuc, sym, ap, ◌∙◌, ap₂, le_trans, le_of_eq, add-zero, mod-lt, mod-eq_of_lt, mul_comm, add-mul, add_comm, one-mul, div-add-mod', le-mul_of_pos_right, div-one, arith, pow_pos, pow-add, shr_lt}
 use native.Mathlib.Nat.{mul-mod_left}
 use lib.Arith.{mod-mul, digits_div}
-use lib.Bits.{bit_and, bit_or, bit_xor, and_mask, or_self, or_shifted, xor_add_and, xor_zero_r}
+use lib.Bits.{bit_or, or_comm, or_self, or_shifted}
 use lib.Pow.{shl-shr, shr_le}
 use lib.Signed.{shr_z}
 use Rattle.bits.specs.Word.{word}
@@ -19,13 +19,6 @@ shifted_lt : (x k : ℕ) → x < 2 ^ 32 → k < 32 → x / 2 ^ k < 2 ^ (32 - k)
 shifted_lt x k g h = shr_lt (32 - k) k (rw (add_comm (32 - k) k, pow-add 2 k (32 - k), ← pow_both k h) g)
 
 -- ---- the arithmetic shift
-
--- all bits changed
-xor_ones : (x k : ℕ) → x < 2 ^ k → bit_xor x (2 ^ k - 1) ≡ 2 ^ k - 1 - x
-xor_ones x k h =
-    let a : bit_and x (2 ^ k - 1) ≡ x = and_mask x k ∙ mod-eq_of_lt h in
-    let e : bit_xor x (2 ^ k - 1) + bit_and x (2 ^ k - 1) * 2 ≡ x + (2 ^ k - 1) = xor_add_and x (2 ^ k - 1) in
-    omega arith
 
 module _ (x n : ℕ) where
   sra_low : x < 2 ^ 31 → x / 2 ^ (n % 32) ≡ shift_right_signed x n
@@ -48,23 +41,6 @@ module _ (x n : ℕ) where
       sym (ap (λ z. word (shr_z z m)) (signed_high 32 x (omega arith) (omega arith) ∙ ap negsuc a) ∙ ap (λ k. 2 ^ 32 - 1 - k) (mod-eq_of_lt e))
 
   module _ (g : x < 2 ^ 32) where
-    -- the code, whose mask is 0 or all ones by the sign of x
-    pub sra_masked : (mask : ℕ) → mask < 2 ^ 32 → (mask + x / 2 ^ 31) % 2 ^ 32 ≡ 0 → bit_xor (bit_xor x mask / 2 ^ (n % 32)) mask ≡ shift_right_signed x n
-    sra_masked mask hm e =
-        by_half 32 x (omega arith) (bit_xor (bit_xor x mask / 2 ^ (n % 32)) mask ≡ shift_right_signed x n)
-        (λ l.
-        let z : mask ≡ 0 = omega arith in
-        ap (λ m. bit_xor (bit_xor x m / 2 ^ (n % 32)) m) z ∙ xor_zero_r (bit_xor x 0 / 2 ^ (n % 32)) ∙ ap (λ m. m / 2 ^ (n % 32)) (xor_zero_r x) ∙ sra_low (omega arith))
-        (λ l.
-        let o : mask ≡ 2 ^ 32 - 1 = omega arith in
-        let y = 2 ^ 32 - 1 - x in
-        let k : y / 2 ^ (n % 32) ≤ y = shr_le y (n % 32) in
-        let s : y / 2 ^ (n % 32) < 2 ^ 32 = omega arith in
-        ap (λ m. bit_xor (bit_xor x m / 2 ^ (n % 32)) m) o
-        ∙ ap (λ m. bit_xor (m / 2 ^ (n % 32)) (2 ^ 32 - 1)) (xor_ones x 32 g)
-        ∙ xor_ones (y / 2 ^ (n % 32)) 32 s
-        ∙ sra_high (omega arith) g)
-
     -- the logical shift, with copies of the sign in the places that it leaves
     pub sra_fill : shift_right_signed x n ≡ x / 2 ^ (n % 32) + x / 2 ^ 31 * (2 ^ 32 - 2 ^ (32 - n % 32))
     sra_fill =
@@ -125,6 +101,6 @@ rotated x (suc k) g h =
     ap (λ n. bit_or n (x / 2 ^ suc k)) (ap (λ n. x * 2 ^ n % 2 ^ 32) e ∙ shl_kept x (suc k) h)
     ∙ or_shifted (x % 2 ^ suc k) (32 - suc k) (x / 2 ^ suc k) (shifted_lt x (suc k) g h)
 
-pub ror_or : (x n : ℕ) → x < 2 ^ 32 → bit_or (x * 2 ^ ((32 - n % 32) % 32) % 2 ^ 32) (x / 2 ^ (n % 32)) ≡ rotate_right x n
+pub ror_or : (x n : ℕ) → x < 2 ^ 32 → bit_or (x / 2 ^ (n % 32)) (x * 2 ^ ((32 - n % 32) % 32) % 2 ^ 32) ≡ rotate_right x n
 unfolding rotate_right
-ror_or x n g = rotated x (n % 32) g (omega arith)
+ror_or x n g = or_comm (x / 2 ^ (n % 32)) (x * 2 ^ ((32 - n % 32) % 32) % 2 ^ 32) ∙ rotated x (n % 32) g (omega arith)

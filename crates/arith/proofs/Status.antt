@@ -15,52 +15,52 @@ unfoldable pub times : ℕ → List ℕ → ℕ
 times i [] = 0
 times i (j ∷ l) = bit (eqb i j) + times i l
 
-only_set : (i v x : ℕ) → v < 2 → (l : List ℕ)
-    → only l (set_bit i v x) + times i l * (bit_at i x * 2 ^ i) ≡ only l x + times i l * (v * 2 ^ i)
+only_set : (i : ℕ) (v : Bool) (x : ℕ) (l : List ℕ)
+    → only l (set_bit i v x) + times i l * (bit_at i x * 2 ^ i) ≡ only l x + times i l * (bit v * 2 ^ i)
 unfolding only times
-only_set i v x h [] = omega arith
-only_set i v x h (j ∷ l) = go (only_set i v x h l) (eqb i j) refl
+only_set i v x [] = omega arith
+only_set i v x (j ∷ l) = go (only_set i v x l) (eqb i j) refl
   where
     one_more : (n c : ℕ) → (1 + n) * c ≡ c + n * c
     one_more n c = add-mul 1 n c ∙ ap (λ t. t + n * c) (one-mul c)
 
-    go : only l (set_bit i v x) + times i l * (bit_at i x * 2 ^ i) ≡ only l x + times i l * (v * 2 ^ i)
+    go : only l (set_bit i v x) + times i l * (bit_at i x * 2 ^ i) ≡ only l x + times i l * (bit v * 2 ^ i)
         → (t : Bool) → eqb i j ≡ t
         → bit_at j (set_bit i v x) * 2 ^ j + only l (set_bit i v x) + (bit t + times i l) * (bit_at i x * 2 ^ i)
-        ≡ bit_at j x * 2 ^ j + only l x + (bit t + times i l) * (v * 2 ^ i)
+        ≡ bit_at j x * 2 ^ j + only l x + (bit t + times i l) * (bit v * 2 ^ i)
     go ih true e =
         let s : i ≡ j = eqb-true i j e in
-        let a : bit_at j (set_bit i v x) * 2 ^ j ≡ v * 2 ^ i = ap (λ k. bit_at k (set_bit i v x) * 2 ^ k) (sym s) ∙ ap (λ b. b * 2 ^ i) (get_set i v x h) in
+        let a : bit_at j (set_bit i v x) * 2 ^ j ≡ bit v * 2 ^ i = ap (λ k. bit_at k (set_bit i v x) * 2 ^ k) (sym s) ∙ ap (λ b. b * 2 ^ i) (get_set i v x) in
         let b : bit_at j x * 2 ^ j ≡ bit_at i x * 2 ^ i = ap (λ k. bit_at k x * 2 ^ k) (sym s) in
         let c = one_more (times i l) (bit_at i x * 2 ^ i) in
-        let d = one_more (times i l) (v * 2 ^ i) in
+        let d = one_more (times i l) (bit v * 2 ^ i) in
         omega arith
     go ih false e =
-        let a : bit_at j (set_bit i v x) * 2 ^ j ≡ bit_at j x * 2 ^ j = ap (λ b. b * 2 ^ j) (get_other i v x h j (eqb-false i j e)) in
+        let a : bit_at j (set_bit i v x) * 2 ^ j ≡ bit_at j x * 2 ^ j = ap (λ b. b * 2 ^ j) (get_other i v x j (eqb-false i j e)) in
         omega arith
 
-pub allowed_set : (i v x : ℕ) → times i status_bits ≡ 1 → v < 2 → allowed x ≡ x → allowed (set_bit i v x) ≡ set_bit i v x
+pub allowed_set : (i : ℕ) (v : Bool) (x : ℕ) → times i status_bits ≡ 1 → allowed x ≡ x → allowed (set_bit i v x) ≡ set_bit i v x
 unfolding allowed
-allowed_set i v x once h e =
-    let s : only status_bits (set_bit i v x) + 1 * (bit_at i x * 2 ^ i) ≡ only status_bits x + 1 * (v * 2 ^ i) = rw once at (only_set i v x h status_bits) in
+allowed_set i v x once e =
+    let s : only status_bits (set_bit i v x) + 1 * (bit_at i x * 2 ^ i) ≡ only status_bits x + 1 * (bit v * 2 ^ i) = rw once at (only_set i v x status_bits) in
     let t = set_exchange i v x in
     omega arith
 
 module _ (x : ℕ) (e : allowed x ≡ x) where
-  pub allowed_flag : (v : ℕ) → v < 2 → allowed (set_bit F v x) ≡ set_bit F v x
+  pub allowed_flag : (v : Bool) → allowed (set_bit F v x) ≡ set_bit F v x
   unfolding times
-  allowed_flag v h = allowed_set F v x refl h e
+  allowed_flag v = allowed_set F v x refl e
 
-  pub allowed_carry_overflow : (cy ov : ℕ) → cy < 2 → ov < 2 → allowed (set_carry_overflow cy ov x) ≡ set_carry_overflow cy ov x
+  pub allowed_carry_overflow : (cy ov : Bool) → allowed (set_carry_overflow cy ov x) ≡ set_carry_overflow cy ov x
   unfolding times
-  allowed_carry_overflow cy ov h g = allowed_set OV ov (set_bit CY cy x) refl g (allowed_set CY cy x refl h e)
+  allowed_carry_overflow cy ov = allowed_set OV ov (set_bit CY cy x) refl (allowed_set CY cy x refl e)
 
-  pub allowed_exception : (slot : ℕ) → slot < 2 → allowed (exception_sr slot x) ≡ exception_sr slot x
+  pub allowed_exception : (slot : Bool) → allowed (exception_sr slot x) ≡ exception_sr slot x
   unfolding times exception_sr
-  allowed_exception slot h =
-      allowed_set SM 1 _ refl (omega arith)
-      (allowed_set TEE 0 _ refl (omega arith)
-      (allowed_set IEE 0 _ refl (omega arith) (allowed_set OVE 0 _ refl (omega arith) (allowed_set DSX slot x refl h e))))
+  allowed_exception slot =
+      allowed_set SM true _ refl
+      (allowed_set TEE false _ refl
+      (allowed_set IEE false _ refl (allowed_set OVE false _ refl (allowed_set DSX slot x refl e))))
 
 -- ---- what a write leaves
 

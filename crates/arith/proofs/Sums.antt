@@ -1,39 +1,17 @@
 -- Sums and differences: what the code works out is what the definitions say. Assumes nothing.
-use Rattle.std.proofs.Common.{◌≡◌, ℕ, zero, suc, ◌+◌, ◌-◌, ◌*◌, ◌/◌, ◌%◌, ◌^◌, ◌<◌, ◌≤◌, Bool, true, false, not, ◌&&◌, ltb, leb, ℤ, pos, negsuc, ◌+ℤ◌, ◌-ℤ◌, sym, refl, ap, ◌∙◌, ap₂, arith, ltb-false, ltb-true, le-ltb, lt-ltb, le-leb}
+use Rattle.std.proofs.Common.{◌≡◌, ℕ, zero, suc, ◌+◌, ◌-◌, ◌*◌, ◌/◌, ◌%◌, ◌^◌, ◌<◌, ◌≤◌, Bool, true, false, not, ◌&&◌, ◌||◌, eqb, ltb, leb, pos, ◌+ℤ◌, ◌-ℤ◌, sym, refl, ap, ◌∙◌, ap₂, arith, le-ltb, lt-ltb, le-leb}
 use lib.Bits.{bit_and, bit_xor, and_shr, xor_shr}
 use lib.IntN.{sub_ℕ}
 use lib.Signed.{lt_z}
 use borrow.Author.Tests.{lt-leb}
+use Rattle.std.specs.Bool.{FalseIff}
 use Rattle.bits.specs.Word.{bit, signed, word}
 use Rattle.bits.proofs.Extend.{signed_word}
-use Rattle.arith.specs.Sums.{fits, sum, difference, address_sum}
+use Rattle.arith.specs.Sums.{fits, address_sum}
 use Rattle.arith.specs.declared.Flagged.{Flagged}
 use Rattle.arith.proofs.Integer.{by_sign, sub_add, sub_sub, sub_le, sub_lt, sub_zero}
 
 -- ---- for callers
-
-pub bit_lt : (t : Bool) → bit t < 2
-bit_lt true = omega arith
-bit_lt false = omega arith
-
-pub word_lt : (z : ℤ) → word z < 2 ^ 32
-unfolding word
-word_lt (pos n) = omega arith
-word_lt (negsuc n) = omega arith
-
--- the ranges of a result and its flags
-pub record Ranged (r : Flagged) : Type 0 where
-  pub value_lt : r.value < 2 ^ 32
-  pub carry_lt : r.carry < 2
-  pub overflow_lt : r.overflow < 2
-
-pub sum_ranged : (a b c : ℕ) → Ranged (sum a b c)
-unfolding sum
-sum_ranged a b c = record { value_lt = omega arith; carry_lt = bit_lt (leb (2 ^ 32) (a + b + c)); overflow_lt = bit_lt (not (fits (signed 32 a +ℤ signed 32 b +ℤ pos c))) }
-
-pub difference_ranged : (a b : ℕ) → Ranged (difference a b)
-unfolding difference
-difference_ranged a b = record { value_lt = word_lt (pos a -ℤ pos b); carry_lt = bit_lt (ltb a b); overflow_lt = bit_lt (not (fits (signed 32 a -ℤ signed 32 b))) }
 
 -- the low 32 bits of a difference, in natural numbers
 pub word_sub : (a b : ℕ) → a < 2 ^ 32 → b < 2 ^ 32 → word (pos a -ℤ pos b) ≡ (a + 2 ^ 32 - b) % 2 ^ 32
@@ -53,26 +31,17 @@ address_sum_multiple a b ma mb = omega arith
 pub wrapped_sub : (a b r : ℕ) → a < 2 ^ 32 → b < 2 ^ 32 → r < 2 ^ 32 → (r + b) % 2 ^ 32 ≡ a → r ≡ word (pos a -ℤ pos b)
 wrapped_sub a b r ha hb hr e = let h : r ≡ (a + 2 ^ 32 - b) % 2 ^ 32 = omega arith in h ∙ sym (word_sub a b ha hb)
 
--- the carry of a sum in two steps
-pub sum_carry : (a b c s r : ℕ) → a < 2 ^ 32 → b < 2 ^ 32 → c < 2 → s ≡ (a + b) % 2 ^ 32 → r ≡ (s + c) % 2 ^ 32
-    → bit (ltb s a) + bit (ltb r s) ≡ bit (leb (2 ^ 32) (a + b + c))
-sum_carry a b c s r ha hb hc e f = go (ltb s a) refl (ltb r s) refl
-  where
-    go : (u : Bool) → ltb s a ≡ u → (v : Bool) → ltb r s ≡ v → bit u + bit v ≡ bit (leb (2 ^ 32) (a + b + c))
-    go true p true q = let i : s < a = ltb-true _ _ p in let j : r < s = ltb-true _ _ q in absurd (omega arith)
-    go true p false q =
-        let i : s < a = ltb-true _ _ p in
-        let k : 2 ^ 32 ≤ a + b + c = omega arith in
-        sym (ap bit (le-leb _ _ k))
-    go false p true q =
-        let j : r < s = ltb-true _ _ q in
-        let k : 2 ^ 32 ≤ a + b + c = omega arith in
-        sym (ap bit (le-leb _ _ k))
-    go false p false q =
-        let i : a ≤ s = ltb-false _ _ p in
-        let j : s ≤ r = ltb-false _ _ q in
-        let k : a + b + c < 2 ^ 32 = omega arith in
-        sym (ap bit (lt-leb _ _ k))
+-- the carry of a sum in two steps, of which at most one carries
+pub sum_carry : (a b : ℕ) (c : Bool) (s : ℕ) (u v : Bool) → a < 2 ^ 32 → b < 2 ^ 32 → s ≡ (a + b) % 2 ^ 32
+    → FalseIff u (a + b < 2 ^ 32) → FalseIff v (s + bit c < 2 ^ 32) → (u || v) ≡ leb (2 ^ 32) (a + b + bit c)
+sum_carry a b c s true v ha hb e p q = let k : 2 ^ 32 ≤ a + b + bit c = omega arith in sym (le-leb _ _ k)
+sum_carry a b c s false true ha hb e p q = let k : 2 ^ 32 ≤ a + b + bit c = omega arith in sym (le-leb _ _ k)
+sum_carry a b c s false false ha hb e p q = let k : a + b + bit c < 2 ^ 32 = omega arith in sym (lt-leb _ _ k)
+
+-- the borrow of a difference
+pub borrowed : (a b : ℕ) (u : Bool) → FalseIff u (b ≤ a) → u ≡ ltb a b
+borrowed a b true p = let k : a < b = omega arith in sym (lt-ltb a b k)
+borrowed a b false p = sym (le-ltb a b p)
 
 -- ---- overflow: the exact signed result, a difference of natural numbers, against the top bits of the code's test
 
@@ -80,30 +49,30 @@ fits_sub : (x p : ℕ) → fits (sub_ℕ x p) ≡ leb (0 + p) (x + 2 ^ 31) && lt
 unfolding fits
 fits_sub x p = ap₂ ◌&&◌ (sub_le 0 (2 ^ 31) x p) (ap (λ z. lt_z (sub_ℕ x p) z) (sub_zero (2 ^ 31)) ∙ sub_lt x p (2 ^ 31) 0)
 
-abbrev overflows : ℕ → ℕ → ℕ
-overflows x p = bit (not (fits (sub_ℕ x p)))
+abbrev overflows : ℕ → ℕ → Bool
+overflows x p = not (fits (sub_ℕ x p))
 
 module _ (x p : ℕ) where
-  inside : p ≤ x + 2 ^ 31 → x < 2 ^ 31 + p → 0 ≡ overflows x p
+  inside : p ≤ x + 2 ^ 31 → x < 2 ^ 31 + p → false ≡ overflows x p
   inside h g =
       let h' : 0 + p ≤ x + 2 ^ 31 = omega arith in
       let g' : x + 0 < 2 ^ 31 + p = omega arith in
       rw (fits_sub x p, le-leb _ _ h', lt-ltb _ _ g')
 
-  below : x + 2 ^ 31 < p → 1 ≡ overflows x p
+  below : x + 2 ^ 31 < p → true ≡ overflows x p
   below h =
       let h' : x + 2 ^ 31 < 0 + p = omega arith in
       rw (fits_sub x p, lt-leb _ _ h')
 
-  above : 2 ^ 31 + p ≤ x → 1 ≡ overflows x p
+  above : 2 ^ 31 + p ≤ x → true ≡ overflows x p
   above h =
       let h' : 0 + p ≤ x + 2 ^ 31 = omega arith in
       let g' : 2 ^ 31 + p ≤ x + 0 = omega arith in
       rw (fits_sub x p, le-leb _ _ h', le-ltb _ _ g')
 
 -- the top bit of the code's test
-tops : (x y z w : ℕ) → bit_and (bit_xor x y) (bit_xor z w) / 2 ^ 31 ≡ bit_and (bit_xor (x / 2 ^ 31) (y / 2 ^ 31)) (bit_xor (z / 2 ^ 31) (w / 2 ^ 31))
-tops x y z w = and_shr (bit_xor x y) (bit_xor z w) 31 ∙ ap₂ bit_and (xor_shr x y 31) (xor_shr z w 31)
+tops : (x y z w : ℕ) → eqb (bit_and (bit_xor x y) (bit_xor z w) / 2 ^ 31) 1 ≡ eqb (bit_and (bit_xor (x / 2 ^ 31) (y / 2 ^ 31)) (bit_xor (z / 2 ^ 31) (w / 2 ^ 31))) 1
+tops x y z w = ap (λ n. eqb n 1) (and_shr (bit_xor x y) (bit_xor z w) 31 ∙ ap₂ bit_and (xor_shr x y 31) (xor_shr z w 31))
 
 -- a number below 2 is 0 or 1
 two : (P : ℕ → Type 0) → P 0 → P 1 → (n : ℕ) → n < 2 → P n
@@ -132,13 +101,13 @@ module _ (a b s : ℕ) (ha : a < 2 ^ 32) (hb : b < 2 ^ 32) (hs : s < 2 ^ 32) whe
 
   -- a sum overflows if its operands have one sign and the result the other
   pub sum_overflow : (c : ℕ) → c < 2 → s ≡ (a + b + c) % 2 ^ 32
-      → bit_and (bit_xor a s) (bit_xor b s) / 2 ^ 31 ≡ bit (not (fits (signed 32 a +ℤ signed 32 b +ℤ pos c)))
+      → eqb (bit_and (bit_xor a s) (bit_xor b s) / 2 ^ 31) 1 ≡ not (fits (signed 32 a +ℤ signed 32 b +ℤ pos c))
   sum_overflow c hc e =
       let p = a / 2 ^ 31 * 2 ^ 32 in
       let q = b / 2 ^ 31 * 2 ^ 32 in
       let t = a + b + c in
       tops a s b s
-      ∙ eight (λ x y z. bit_and (bit_xor x z) (bit_xor y z) ≡ overflows t (x * 2 ^ 32 + y * 2 ^ 32 + 0))
+      ∙ eight (λ x y z. eqb (bit_and (bit_xor x z) (bit_xor y z)) 1 ≡ overflows t (x * 2 ^ 32 + y * 2 ^ 32 + 0))
       (λ f g h. inside t 0 (omega arith) (omega arith))
       (λ f g h. above t 0 (omega arith))
       (λ f g h. inside t (2 ^ 32) (omega arith) (omega arith))
@@ -148,16 +117,16 @@ module _ (a b s : ℕ) (ha : a < 2 ^ 32) (hb : b < 2 ^ 32) (hs : s < 2 ^ 32) whe
       (λ f g h. below t (2 ^ 33) (omega arith))
       (λ f g h. inside t (2 ^ 33) (omega arith) (omega arith))
       ∙ sym
-      (ap (λ z. bit (not (fits z)))
+      (ap (λ z. not (fits z))
       (ap₂ ◌+ℤ◌ (ap₂ ◌+ℤ◌ (signed_word a ha) (signed_word b hb) ∙ sub_add a p b q) (sub_zero c) ∙ sub_add (a + b) (p + q) c 0))
 
   -- a difference overflows if its operands have two signs and the result has not the first's
-  pub difference_overflow : (s + b) % 2 ^ 32 ≡ a → bit_and (bit_xor a b) (bit_xor a s) / 2 ^ 31 ≡ bit (not (fits (signed 32 a -ℤ signed 32 b)))
+  pub difference_overflow : (s + b) % 2 ^ 32 ≡ a → eqb (bit_and (bit_xor a b) (bit_xor a s) / 2 ^ 31) 1 ≡ not (fits (signed 32 a -ℤ signed 32 b))
   difference_overflow e =
       let p = a / 2 ^ 31 * 2 ^ 32 in
       let q = b / 2 ^ 31 * 2 ^ 32 in
       tops a b a s
-      ∙ eight (λ x y z. bit_and (bit_xor x y) (bit_xor x z) ≡ overflows (a + y * 2 ^ 32) (x * 2 ^ 32 + b))
+      ∙ eight (λ x y z. eqb (bit_and (bit_xor x y) (bit_xor x z)) 1 ≡ overflows (a + y * 2 ^ 32) (x * 2 ^ 32 + b))
       (λ f g h. inside (a + 0) (0 + b) (omega arith) (omega arith))
       (λ f g h. inside (a + 0) (0 + b) (omega arith) (omega arith))
       (λ f g h. inside (a + 2 ^ 32) (0 + b) (omega arith) (omega arith))
@@ -166,8 +135,8 @@ module _ (a b s : ℕ) (ha : a < 2 ^ 32) (hb : b < 2 ^ 32) (hs : s < 2 ^ 32) whe
       (λ f g h. inside (a + 0) (2 ^ 32 + b) (omega arith) (omega arith))
       (λ f g h. inside (a + 2 ^ 32) (2 ^ 32 + b) (omega arith) (omega arith))
       (λ f g h. inside (a + 2 ^ 32) (2 ^ 32 + b) (omega arith) (omega arith))
-      ∙ sym (ap (λ z. bit (not (fits z))) (ap₂ ◌-ℤ◌ (signed_word a ha) (signed_word b hb) ∙ sub_sub a p b q))
+      ∙ sym (ap (λ z. not (fits z)) (ap₂ ◌-ℤ◌ (signed_word a ha) (signed_word b hb) ∙ sub_sub a p b q))
 
-pub flagged_same : {v v' c c' o o' : ℕ} → v ≡ v' → c ≡ c' → o ≡ o'
+pub flagged_same : {v v' : ℕ} {c c' o o' : Bool} → v ≡ v' → c ≡ c' → o ≡ o'
     → ◌≡◌ {A = Flagged} (record { value = v; carry = c; overflow = o }) (record { value = v'; carry = c'; overflow = o' })
 flagged_same p q r = cc

@@ -1,5 +1,5 @@
 -- The bits of SR and ESR, and what is written to SR, ESR and EPCR.
-use Rattle.std.specs.Prelude.{ℕ, ◌+◌, ◌*◌, ◌/◌, ◌^◌, List, [], ◌∷◌}
+use Rattle.std.specs.Prelude.{ℕ, ◌+◌, ◌*◌, ◌/◌, ◌^◌, Bool, true, false, List, [], ◌∷◌}
 use Rattle.bits.specs.Word.{bit_at}
 use Rattle.arith.specs.Bit.{set_bit}
 
@@ -48,10 +48,10 @@ abbrev pub aligned : ℕ → ℕ
 aligned x = x / 4 * 4
 
 -- SR with CY and OV
-abbrev pub set_carry_overflow : ℕ → ℕ → ℕ → ℕ
+abbrev pub set_carry_overflow : Bool → Bool → ℕ → ℕ
 set_carry_overflow cy ov sr = set_bit OV ov (set_bit CY cy sr)
 
--- SR after an exception, where slot is 1 in a delay slot, else 0.
+-- SR after an exception, in a delay slot or not.
 -- One instruction, vectors: "ESR takes SR; then SM = 1, TEE, IEE, OVE = 0, DSX = slot"
-unfoldable pub exception_sr : ℕ → ℕ → ℕ
-exception_sr slot sr = set_bit SM 1 (set_bit TEE 0 (set_bit IEE 0 (set_bit OVE 0 (set_bit DSX slot sr))))
+unfoldable pub exception_sr : Bool → ℕ → ℕ
+exception_sr slot sr = set_bit SM true (set_bit TEE false (set_bit IEE false (set_bit OVE false (set_bit DSX slot sr))))

@@ -9,20 +9,20 @@ fits z = int_le (neg_ℤ (pos (2 ^ 31))) z && int_lt z (pos (2 ^ 31))
 
 -- One instruction: "Sums and differences keep the low 32 bits. CY is the unsigned carry or, for sub, borrow; OV means that the exact signed
 -- result does not fit".
--- a + b + c, where c is a carry or 0
-unfoldable pub sum : ℕ → ℕ → ℕ → Flagged
+-- a + b + c, where c is a carry
+unfoldable pub sum : ℕ → ℕ → Bool → Flagged
 sum a b c = record {
-  value = (a + b + c) % 2 ^ 32;
-  carry = bit (nat_le (2 ^ 32) (a + b + c));
-  overflow = bit (not (fits (signed 32 a +ℤ signed 32 b +ℤ pos c)));
+  value = (a + b + bit c) % 2 ^ 32;
+  carry = nat_le (2 ^ 32) (a + b + bit c);
+  overflow = not (fits (signed 32 a +ℤ signed 32 b +ℤ pos (bit c)));
 }
 
 -- a - b
 unfoldable pub difference : ℕ → ℕ → Flagged
 difference a b = record {
   value = word (pos a -ℤ pos b);
-  carry = bit (nat_lt a b);
-  overflow = bit (not (fits (signed 32 a -ℤ signed 32 b)));
+  carry = nat_lt a b;
+  overflow = not (fits (signed 32 a -ℤ signed 32 b));
 }
 
 -- One instruction, vectors: "All address sums wrap"

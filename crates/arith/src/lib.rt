@@ -1,7 +1,6 @@
 #![tactic(auto)]
 // Arithmetic on words, and the bits of SR.
 ghost use Rattle.std.specs.Prelude.{◌≡◌, ◌^◌, ◌<◌, bit_and, bit_or, bit_xor, if◌then◌else◌};
-ghost use Rattle.bits.specs.Word.{bit, bit_at};
 ghost use Rattle.arith.specs.Bit.{is_set, set_bit};
 ghost use Rattle.arith.specs.Status.{IEE, F, CY, OVE, allowed, aligned, set_carry_overflow, exception_sr};
 ghost use Rattle.arith.specs.Sums.{sum, difference, address_sum, address_difference};
@@ -26,60 +25,52 @@ pub const OVE: u32 = 12;
 
 pub const DSX: u32 = 13;
 
-// A result with its flags, each 0 or 1.
+// A result with its flags.
 #[derive(Clone, Copy)]
 pub struct Flagged {
     pub value: u32,
-    pub carry: u32,
-    pub overflow: u32,
+    pub carry: bool,
+    pub overflow: bool,
 }
 
-// 1 for true.
-fn one_if(t: bool) -> u32
-    ensures { (result ≡ bit t) × (result < 2) }
+// The bit of x at a place is 1.
+fn is_set(x: u32, place: u32) -> bool
+    requires { place < 32 }
+    ensures { result ≡ is_set place x }
 {
-    t as u32
+    (x >> place) % 2 == 1
 }
 
-// Bit i of x.
-fn bit_at(x: u32, i: u32) -> u32
-    requires { i < 32 }
-    ensures { (result ≡ bit_at i x) × (result < 2) }
+// x with the bit at a place made v.
+fn set_bit(x: u32, place: u32, v: bool) -> u32
+    requires { place < 32 }
+    ensures { result ≡ set_bit place v x }
 {
-    (x >> i) % 2
-}
-
-// x with bit i made v.
-fn set_bit(x: u32, i: u32, v: u32) -> u32
-    requires { (i < 32) × (v < 2) }
-    ensures { result ≡ set_bit i v x }
-{
-    x - (bit_at(x, i) << i) + (v << i)
+    if v { x | 1 << place } else { x & !(1 << place) }
 }
 
 // F, the flag that compares set and branches read.
 pub fn flag(sr: u32) -> bool
     ensures { result ≡ is_set F sr }
 {
-    bit_at(sr, F) == 1
+    is_set(sr, F)
 }
 
 pub fn set_flag(sr: u32, f: bool) -> u32
-    ensures { result ≡ set_bit F (bit f) sr }
+    ensures { result ≡ set_bit F f sr }
 {
-    set_bit(sr, F, one_if(f))
+    set_bit(sr, F, f)
 }
 
 // CY, the carry in.
-pub fn carry(sr: u32) -> u32
-    ensures { (result ≡ bit_at CY sr) × (result < 2) }
+pub fn carry(sr: u32) -> bool
+    ensures { result ≡ is_set CY sr }
 {
-    bit_at(sr, CY)
+    is_set(sr, CY)
 }
 
 // SR with CY and OV.
-pub fn set_carry_overflow(sr: u32, cy: u32, ov: u32) -> u32
-    requires { (cy < 2) × (ov < 2) }
+pub fn set_carry_overflow(sr: u32, cy: bool, ov: bool) -> u32
     ensures { result ≡ set_carry_overflow cy ov sr }
 {
     set_bit(set_bit(sr, CY, cy), OV, ov)
@@ -89,14 +80,14 @@ pub fn set_carry_overflow(sr: u32, cy: u32, ov: u32) -> u32
 pub fn overflow_enabled(sr: u32) -> bool
     ensures { result ≡ is_set OVE sr }
 {
-    bit_at(sr, OVE) == 1
+    is_set(sr, OVE)
 }
 
 // IEE: interrupts are taken.
 pub fn interrupts_enabled(sr: u32) -> bool
     ensures { result ≡ is_set IEE sr }
 {
-    bit_at(sr, IEE) == 1
+    is_set(sr, IEE)
 }
 
 // What a write of x to SR or ESR leaves: bits 0 to 2 and 9 to 13 of x, and bit 15.
@@ -113,41 +104,39 @@ pub fn align(x: u32) -> u32
     x / 4 * 4
 }
 
-// SR after an exception; slot is 1 in a delay slot.
-pub fn exception_sr(sr: u32, slot: u32) -> u32
-    requires { slot < 2 }
+// SR after an exception, in a delay slot or not.
+pub fn exception_sr(sr: u32, slot: bool) -> u32
     ensures { result ≡ exception_sr slot sr }
 {
     let a = set_bit(sr, DSX, slot);
-    let b = set_bit(a, OVE, 0);
-    let c = set_bit(b, IEE, 0);
-    let d = set_bit(c, TEE, 0);
-    set_bit(d, SM, 1)
+    let b = set_bit(a, OVE, false);
+    let c = set_bit(b, IEE, false);
+    let d = set_bit(c, TEE, false);
+    set_bit(d, SM, true)
 }
 
 // a + b + c, where c is a carry. It overflows if a and b have one sign and the value has the other.
-pub fn add(a: u32, b: u32, c: u32) -> Flagged
-    requires { c < 2 }
-    ensures { (result ≡ sum a b c) × (result.carry < 2) × (result.overflow < 2) }
+pub fn add(a: u32, b: u32, c: bool) -> Flagged
+    ensures { result ≡ sum a b c }
 {
-    let s = std::num::wrapping_add_u32(a, b);
-    let value = std::num::wrapping_add_u32(s, c);
+    let (s, first) = a.overflowing_add(b);
+    let (value, second) = s.overflowing_add(u32::from(c));
     Flagged {
         value,
-        carry: one_if(s < a) + one_if(value < s),
-        overflow: ((a ^ value) & (b ^ value)) >> 31,
+        carry: first || second,
+        overflow: ((a ^ value) & (b ^ value)) >> 31 == 1,
     }
 }
 
 // a - b. It overflows if a and b have two signs and the value has not a's.
 pub fn sub(a: u32, b: u32) -> Flagged
-    ensures { (result ≡ difference a b) × (result.carry < 2) × (result.overflow < 2) }
+    ensures { result ≡ difference a b }
 {
-    let value = std::num::wrapping_sub_u32(a, b);
+    let (value, borrow) = a.overflowing_sub(b);
     Flagged {
         value,
-        carry: one_if(a < b),
-        overflow: ((a ^ b) & (a ^ value)) >> 31,
+        carry: borrow,
+        overflow: ((a ^ b) & (a ^ value)) >> 31 == 1,
     }
 }
 
@@ -155,20 +144,13 @@ pub fn sub(a: u32, b: u32) -> Flagged
 pub fn address_add(a: u32, b: u32) -> u32
     ensures { result ≡ address_sum a b }
 {
-    std::num::wrapping_add_u32(a, b)
+    a.wrapping_add(b)
 }
 
 pub fn address_sub(a: u32, b: u32) -> u32
     ensures { result ≡ address_difference a b }
 {
-    std::num::wrapping_sub_u32(a, b)
-}
-
-// a + 2^31: signed numbers are in the order of these words.
-fn biased(a: u32) -> u32
-    ensures { result ≡ address_sum a (2 ^ 31) }
-{
-    std::num::wrapping_add_u32(a, 0x80000000)
+    a.wrapping_sub(b)
 }
 
 // The compare at place n of the set-flag order.
@@ -182,10 +164,10 @@ pub fn compare(n: u8, a: u32, b: u32) -> bool
         3 => b <= a, // geu
         4 => a < b, // ltu
         5 => a <= b, // leu
-        6 => biased(b) < biased(a), // gts
-        7 => biased(b) <= biased(a), // ges
-        8 => biased(a) < biased(b), // lts
-        9 => biased(a) <= biased(b), // les
+        6 => b.cast_signed() < a.cast_signed(), // gts
+        7 => b.cast_signed() <= a.cast_signed(), // ges
+        8 => a.cast_signed() < b.cast_signed(), // lts
+        9 => a.cast_signed() <= b.cast_signed(), // les
         _ => false,
     }
 }
@@ -203,20 +185,17 @@ pub fn srl(x: u32, n: u32) -> u32
     x >> (n % 32)
 }
 
-// A negative x is complemented before and after, so that ones come in at the top.
+// The sign comes in at the top.
 pub fn sra(x: u32, n: u32) -> u32
     ensures { result ≡ shift_right_signed x n }
 {
-    let mask = std::num::wrapping_sub_u32(0, x >> 31);
-    ((x ^ mask) >> (n % 32)) ^ mask
+    (x.cast_signed() >> (n % 32)).cast_unsigned()
 }
 
-// By 0, both parts are x.
 pub fn ror(x: u32, n: u32) -> u32
     ensures { result ≡ rotate_right x n }
 {
-    let k = n % 32;
-    (x << ((32 - k) % 32)) | (x >> k)
+    x.rotate_right(n)
 }
 
 // k in the upper half.
@@ -258,12 +237,12 @@ pub fn ff1(x: u32) -> u32
     if x == 0 {
         return 0;
     }
-    u32::trailing_zeros(x) + 1
+    x.trailing_zeros() + 1
 }
 
 // The place of the highest set bit of x, likewise.
 pub fn fl1(x: u32) -> u32
     ensures { result ≡ greatest 32 x }
 {
-    32 - u32::leading_zeros(x)
+    32 - x.leading_zeros()
 }

@@ -1,6 +1,7 @@
-use Rattle.std.proofs.Common.{◌∙◌, ne_eqb}
+use Rattle.std.proofs.Common.{◌∙◌, ap₂, ne_eqb}
+use lib.Signed.{le_z, lt_z}
 use Rattle.arith.specs.Compare.{holds}
-use Rattle.arith.proofs.Order.{signed_le, signed_lt}
+use Rattle.arith.proofs.Signed.{cast_back}
 use Rattle.arith.proofs.compare.Goals as goal
 
 pub returns-in-0 : goal.returns-in-0
@@ -31,25 +32,25 @@ pub returns-in-6 : goal.returns-in-6
 unfolding holds
 returns-in-6 c =
     let f = c.ranges in
-    signed_lt _ _ _ _ f.b.fits f.a.fits c.biased.ensures c.biased-in-6.ensures ∙ simp c.in-6.is
+    ap₂ lt_z (cast_back _ _ f.b.fits c.cast_signed.ensures) (cast_back _ _ f.a.fits c.cast_signed-in-6.ensures) ∙ simp c.in-6.is
 
 pub returns-in-7 : goal.returns-in-7
 unfolding holds
 returns-in-7 c =
     let f = c.ranges in
-    signed_le _ _ _ _ f.b.fits f.a.fits c.biased-in-7.ensures c.biased-in-7-2.ensures ∙ simp c.in-7.is
+    ap₂ le_z (cast_back _ _ f.b.fits c.cast_signed-in-7.ensures) (cast_back _ _ f.a.fits c.cast_signed-in-7-2.ensures) ∙ simp c.in-7.is
 
 pub returns-in-8 : goal.returns-in-8
 unfolding holds
 returns-in-8 c =
     let f = c.ranges in
-    signed_lt _ _ _ _ f.a.fits f.b.fits c.biased-in-8.ensures c.biased-in-8-2.ensures ∙ simp c.in-8.is
+    ap₂ lt_z (cast_back _ _ f.a.fits c.cast_signed-in-8.ensures) (cast_back _ _ f.b.fits c.cast_signed-in-8-2.ensures) ∙ simp c.in-8.is
 
 pub returns-in-9 : goal.returns-in-9
 unfolding holds
 returns-in-9 c =
     let f = c.ranges in
-    signed_le _ _ _ _ f.a.fits f.b.fits c.biased-in-9.ensures c.biased-in-9-2.ensures ∙ simp c.in-9.is
+    ap₂ le_z (cast_back _ _ f.a.fits c.cast_signed-in-9.ensures) (cast_back _ _ f.b.fits c.cast_signed-in-9-2.ensures) ∙ simp c.in-9.is
 
 pub returns-in_default : goal.returns-in_default
 unfolding holds
