@@ -1,16 +1,9 @@
 -- The accumulator: what the code works out is what the definitions say. Assumes nothing.
-use Rattle.std.proofs.Common.{◌≡◌, ℕ, zero, suc, ◌+◌, ◌-◌, ◌/◌, ◌%◌, ◌^◌, ◌<◌, ◌≤◌, ℤ, pos, negsuc, ◌+ℤ◌, ◌-ℤ◌, neg_ℤ, sym, refl, ap, ◌∙◌, arith}
-use Rattle.bits.specs.Word.{signed, modulo}
+use Rattle.std.proofs.Common.{◌≡◌, ℕ, zero, suc, ◌+◌, ◌-◌, ◌/◌, ◌%◌, ◌^◌, ◌<◌, ℤ, pos, negsuc, ◌+ℤ◌, ◌-ℤ◌, neg_ℤ, sym, refl, ap, ◌∙◌, arith}
+use Rattle.bits.specs.Word.{modulo}
 use Rattle.arith.proofs.Integer.{by_sign}
 use Rattle.product.specs.Accumulate.{holding}
 use Rattle.product.specs.declared.Accumulator.{Accumulator}
-use Rattle.product.proofs.Signs.{signed_pos, signed_neg}
-
-pub extended_pos : (t : ℕ) → t < 2 ^ 31 → t ≡ modulo 64 (signed 32 t)
-extended_pos t l = rw (signed_pos t (omega arith) l) (omega arith)
-
-pub extended_neg : (t : ℕ) → t < 2 ^ 32 → 2 ^ 31 ≤ t → t + (2 ^ 64 - 2 ^ 32) ≡ modulo 64 (signed 32 t)
-extended_neg t h l = rw (signed_neg t h l) (omega arith)
 
 -- a sum and a difference modulo 2 ^ 64, by what the summand is modulo 2 ^ 64
 modulo_add : (n : ℕ) (z : ℤ) → modulo 64 (pos n +ℤ z) ≡ (n + modulo 64 z) % 2 ^ 64
@@ -34,8 +27,8 @@ held_sum n t r z e f =
     let g : r % 2 ^ 64 ≡ (n + modulo 64 z) % 2 ^ 64 = omega arith in
     held r (pos n +ℤ z) (g ∙ sym (modulo_add n z))
 
-pub held_difference : (n t r : ℕ) (z : ℤ) → t ≡ modulo 64 z → (r + t) % 2 ^ 64 ≡ n → holding (pos r) ≡ holding (pos n -ℤ z)
-held_difference n t r z e f =
+pub held_difference : (n t r : ℕ) (z : ℤ) → t < 2 ^ 64 → t ≡ modulo 64 z → r ≡ (n + (2 ^ 64 - t)) % 2 ^ 64 → holding (pos r) ≡ holding (pos n -ℤ z)
+held_difference n t r z h e f =
     let o : (modulo 64 (neg_ℤ z) + modulo 64 z) % 2 ^ 64 ≡ 0 = modulo_neg z in
     let g : r % 2 ^ 64 ≡ (n + modulo 64 (neg_ℤ z)) % 2 ^ 64 = omega arith in
     held r (pos n -ℤ z) (g ∙ sym (modulo_add n (neg_ℤ z)))

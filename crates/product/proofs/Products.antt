@@ -1,24 +1,10 @@
 -- Products and quotients: what the code works out is what the definitions say. Assumes nothing.
-use Rattle.std.proofs.Common.{◌≡◌, ℕ, suc, ◌+◌, ◌-◌, ◌*◌, ◌%◌, ◌^◌, ◌<◌, not, leb, pos, ◌*ℤ◌, neg_ℤ, sym, refl, ap, ◌∙◌, ap₂, mul_comm, mul-add, arith}
+use Rattle.std.proofs.Common.{◌≡◌, ℕ, suc, ◌+◌, ◌-◌, ◌*◌, ◌%◌, ◌^◌, ◌<◌, ◌≤◌, Bool, true, false, le-leb, leb, pos, ◌*ℤ◌, neg_ℤ, sym, refl, ap, ◌∙◌, ap₂, mul_comm, mul-add, arith}
+use borrow.Author.Tests.{lt-leb}
+use Rattle.std.specs.Bool.{FalseIff}
 use Rattle.bits.specs.Word.{signed, word}
-use Rattle.arith.specs.Sums.{fits}
-use Rattle.arith.proofs.Sums.{Ranged, bit_lt, word_lt}
-use Rattle.product.specs.Product.{product, product_unsigned, quotient}
+use Rattle.product.specs.Product.{product, quotient}
 use Rattle.product.proofs.Signs.{word_neg, by_signs}
-
--- ---- for callers
-
-pub product_ranged : (a b : ℕ) → Ranged (product a b)
-unfolding product
-product_ranged a b = record {
-  value_lt = word_lt (signed 32 a *ℤ signed 32 b);
-  carry_lt = bit_lt (leb (2 ^ 32) (a * b));
-  overflow_lt = bit_lt (not (fits (signed 32 a *ℤ signed 32 b)));
-}
-
-pub product_unsigned_ranged : (a b : ℕ) → Ranged (product_unsigned a b)
-unfolding product_unsigned
-product_unsigned_ranged a b = record { value_lt = omega arith; carry_lt = bit_lt (leb (2 ^ 32) (a * b)); overflow_lt = omega arith }
 
 -- ---- "For l.div 80000000 by ffffffff gives 80000000."
 
@@ -61,3 +47,9 @@ word_product a b ha hb =
 pub product_low : (a b : ℕ) → a < 2 ^ 32 → b < 2 ^ 32 → (product a b).value ≡ a * b % 2 ^ 32
 unfolding product
 product_low a b ha hb = word_product a b ha hb
+
+-- ---- what does not fit in 32 bits
+
+pub carried : (p : ℕ) (u : Bool) → FalseIff u (p < 2 ^ 32) → u ≡ leb (2 ^ 32) p
+carried p true h = let k : 2 ^ 32 ≤ p = omega arith in sym (le-leb _ _ k)
+carried p false h = sym (lt-leb _ _ h)

@@ -1,14 +1,12 @@
 -- Signed numbers by their sign and magnitude. Assumes nothing.
-use Rattle.std.proofs.Common.{◌≡◌, ℕ, zero, suc, ◌+◌, ◌-◌, ◌*◌, ◌/◌, ◌%◌, ◌^◌, ◌<◌, ◌≤◌, Bool, true, false, not, ◌&&◌, eqb, ltb, leb, ℤ, pos, negsuc, ◌*ℤ◌, neg_ℤ, nat_abs, sym, refl, ap, ◌∙◌, ap₂, mod-eq_of_lt, mul-zero, zero-mul, arith, le-leb}
+use Rattle.std.proofs.Common.{◌≡◌, ℕ, zero, suc, ◌-◌, ◌*◌, ◌/◌, ◌%◌, ◌^◌, ◌<◌, ◌≤◌, Bool, true, false, leb, ℤ, pos, negsuc, ◌*ℤ◌, neg_ℤ, nat_abs, sym, refl, ap, ◌∙◌, ap₂, le_trans, zero-le, mod-eq_of_lt, mul-zero, zero-mul, arith, le-leb}
 use mathlib.Core.Bool.{xor}
-use native.Mathlib.Nat.{zero-div, div-zero}
-use lib.Signed.{quot_z}
+use native.Mathlib.Nat.{zero-div, div-zero, div-le_self}
+use lib.Signed.{mag, quot_z}
 use borrow.Author.Tests.{lt-leb}
 use Rattle.std.specs.Prelude.{if◌then◌else◌}
-use Rattle.bits.specs.Word.{bit, signed, word}
+use Rattle.bits.specs.Word.{signed, word}
 use Rattle.bits.proofs.Extend.{signed_low, signed_high, by_half}
-use Rattle.arith.specs.Sums.{fits}
-use Rattle.arith.proofs.Integer.{leb_same, ltb_not}
 
 -- the number of this sign and magnitude
 abbrev pub with_sign : Bool → ℕ → ℤ
@@ -24,10 +22,6 @@ pub word_neg : (m : ℕ) → word (neg_ℤ (pos m)) ≡ (2 ^ 32 - m % 2 ^ 32) % 
 unfolding word
 word_neg zero = refl
 word_neg (suc m) = omega arith
-
--- what wraps to 0
-pub wrapped_neg : (n r : ℕ) → r < 2 ^ 32 → (r + n) % 2 ^ 32 ≡ 0 → r ≡ word (neg_ℤ (pos n))
-wrapped_neg n r h e = let q : r ≡ (2 ^ 32 - n % 2 ^ 32) % 2 ^ 32 = omega arith in q ∙ sym (word_neg n)
 
 module _ (x : ℕ) (h : x < 2 ^ 32) where
   pub signed_pos : x < 2 ^ 31 → signed 32 x ≡ pos x
@@ -51,29 +45,6 @@ module _ (x : ℕ) (h : x < 2 ^ 32) where
   signed_parts : signed 32 x ≡ with_sign (negative x) (nat_abs (signed 32 x))
   signed_parts = by_signs (signed 32 x ≡ with_sign (negative x) (nat_abs (signed 32 x))) (λ k n e. rw (n, e)) (λ k n e. rw (n, e))
 
-  -- the code's magnitude
-  pub magnitude_word : word (with_sign (negative x) x) ≡ nat_abs (signed 32 x)
-  unfolding word
-  magnitude_word =
-      by_signs (word (with_sign (negative x) x) ≡ nat_abs (signed 32 x))
-      (λ k n e. rw (n, e) (mod-eq_of_lt h))
-      (λ k n e.
-      let q : (2 ^ 32 - x % 2 ^ 32) % 2 ^ 32 ≡ suc (2 ^ 32 - suc x) = omega arith in
-      rw (n, e) (word_neg x ∙ q))
-
-  pub magnitude_pos : 0 < x → 0 < nat_abs (signed 32 x)
-  magnitude_pos p = by_signs (0 < nat_abs (signed 32 x)) (λ k n e. rw e (omega arith)) (λ k n e. rw e (omega arith))
-
-  top_bit : x / 2 ^ 31 ≡ bit (negative x)
-  top_bit = by_signs (x / 2 ^ 31 ≡ bit (negative x)) (λ k n e. rw n (omega arith)) (λ k n e. rw n (omega arith))
-
-bits_differ : (s t : Bool) → not (eqb (bit s) (bit t)) ≡ xor s t
-unfolding xor
-bits_differ true true = refl
-bits_differ true false = refl
-bits_differ false true = refl
-bits_differ false false = refl
-
 -- ---- products and quotients: of the magnitudes, and negative if the signs differ
 
 neg_none : (k : ℕ) → k ≡ 0 → neg_ℤ (pos k) ≡ pos k
@@ -95,10 +66,6 @@ module _ (f : ℕ → ℕ → ℕ) (op : ℤ → ℤ → ℤ) (none_l : (n : ℕ
   of_signs true true (suc m) (suc n) = nn m n
 
 module _ (a b : ℕ) (ha : a < 2 ^ 32) (hb : b < 2 ^ 32) where
-  -- the code's test
-  pub opposite_signs : not (eqb (a / 2 ^ 31) (b / 2 ^ 31)) ≡ xor (negative a) (negative b)
-  opposite_signs = ap₂ (λ u v. not (eqb u v)) (top_bit a ha) (top_bit b hb) ∙ bits_differ (negative a) (negative b)
-
   pub product_parts : signed 32 a *ℤ signed 32 b ≡ with_sign (xor (negative a) (negative b)) (nat_abs (signed 32 a) * nat_abs (signed 32 b))
   product_parts =
       ap₂ ◌*ℤ◌ (signed_parts a ha) (signed_parts b hb)
@@ -111,19 +78,14 @@ module _ (a b : ℕ) (ha : a < 2 ^ 32) (hb : b < 2 ^ 32) where
       ∙ of_signs ◌/◌ quot_z zero-div div-zero (λ m n. refl) (λ m n. refl) (λ m n. refl) (λ m n. refl)
       (negative a) (negative b) (nat_abs (signed 32 a)) (nat_abs (signed 32 b))
 
--- ---- what fits
+-- ---- a quotient is no larger than what is divided
 
-pub fits_pos : (m : ℕ) → ltb (2 ^ 31 - 1) m ≡ not (fits (pos m))
-unfolding fits
-fits_pos m = ltb_not (2 ^ 31 - 1) m ∙ ap not (leb_same m (2 ^ 31 - 1) (suc m) (2 ^ 31) (λ h. omega arith) (λ h. omega arith))
+mag_neg : (r : ℕ) → mag (neg_ℤ (pos r)) ≤ r
+mag_neg zero = zero-le
+mag_neg (suc r) = omega arith
 
-pub fits_neg : (m : ℕ) → ltb (2 ^ 31) m ≡ not (fits (neg_ℤ (pos m)))
-unfolding fits
-fits_neg zero = refl
-fits_neg (suc m) =
-    ltb_not (2 ^ 31) (suc m)
-    ∙ ap not (leb_same (suc m) (2 ^ 31) m (2 ^ 31 - 1) (λ h. omega arith) (λ h. omega arith) ∙ sym (and_true (leb m (2 ^ 31 - 1))))
-  where
-    and_true : (t : Bool) → t && true ≡ t
-    and_true true = refl
-    and_true false = refl
+pub mag_quot : (z d : ℤ) → mag (quot_z z d) ≤ nat_abs z
+mag_quot (pos a) (pos b) = div-le_self a b
+mag_quot (pos a) (negsuc b) = le_trans (mag_neg (a / suc b)) (div-le_self a (suc b))
+mag_quot (negsuc a) (pos b) = le_trans (mag_neg (suc a / b)) (div-le_self (suc a) b)
+mag_quot (negsuc a) (negsuc b) = div-le_self (suc a) (suc b)

@@ -1,6 +1,6 @@
 -- Products and quotients: document 02, note 2.
-use Rattle.std.specs.Prelude.{ℕ, ◌*◌, ◌/◌, ◌%◌, ◌^◌, not, ◌*ℤ◌, int_div, nat_le}
-use Rattle.bits.specs.Word.{bit, signed, word}
+use Rattle.std.specs.Prelude.{ℕ, ◌*◌, ◌/◌, ◌%◌, ◌^◌, not, false, ◌*ℤ◌, int_div, nat_le}
+use Rattle.bits.specs.Word.{signed, word}
 use Rattle.arith.specs.Sums.{fits}
 use Rattle.arith.specs.declared.Flagged.{Flagged}
 
@@ -9,16 +9,16 @@ use Rattle.arith.specs.declared.Flagged.{Flagged}
 unfoldable pub product : ℕ → ℕ → Flagged
 product a b = record {
   value = word (signed 32 a *ℤ signed 32 b);
-  carry = bit (nat_le (2 ^ 32) (a * b));
-  overflow = bit (not (fits (signed 32 a *ℤ signed 32 b)));
+  carry = nat_le (2 ^ 32) (a * b);
+  overflow = not (fits (signed 32 a *ℤ signed 32 b));
 }
 
 -- The unsigned one. "mulu and both divisions set OV to 0."
 unfoldable pub product_unsigned : ℕ → ℕ → Flagged
 product_unsigned a b = record {
   value = a * b % 2 ^ 32;
-  carry = bit (nat_le (2 ^ 32) (a * b));
-  overflow = 0;
+  carry = nat_le (2 ^ 32) (a * b);
+  overflow = false;
 }
 
 -- "Division truncates toward zero." "For l.div 80000000 by ffffffff gives 80000000": 2 ^ 31, as a word (law `least_by_minus_one`). What a zero

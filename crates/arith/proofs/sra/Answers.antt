@@ -17,5 +17,5 @@ returns c =
     let l = mag_shr r p in
     let g : SFits w32 (shr_z r p) = record { sfits = omega (arith, c.cast_signed.type_inv, l) } in
     simp (to_z-of_z f, to_z-of_z g) at c.cast_unsigned.ensures
-    ∙ cast_word (shr_z r p) g
+    ∙ cast_word (shr_z r p) (omega (arith, c.cast_signed.type_inv, l))
     ∙ ap (λ z. word (shr_z z p)) (c.cast_signed.ensures ∙ cast_signed c.args.x c.ranges.x.fits)

@@ -1,23 +1,23 @@
-use Rattle.std.proofs.Common.{◌≡◌, ◌*◌, ◌^◌, not, leb, ◌*ℤ◌, sym, ap, ◌∙◌, ap₂}
-use Rattle.bits.specs.Word.{bit, signed}
-use Rattle.arith.specs.Sums.{fits}
+use Rattle.std.proofs.Common.{sym, ap, ◌∙◌, ◌*ℤ◌}
+use Rattle.bits.specs.Word.{signed}
+use Rattle.arith.specs.declared.Flagged.{Flagged}
+use Rattle.arith.proofs.Signed.{cast_back, overflowed}
 use Rattle.arith.proofs.Sums.{flagged_same}
-use Rattle.product.specs.Product.{product}
-use Rattle.product.proofs.Signs.{with_sign, product_parts}
+use Rattle.product.specs.Product.{product, product_unsigned}
+use Rattle.product.proofs.Products.{word_product}
 use Rattle.product.proofs.mul.Goals as goal
 
 pub returns : goal.returns
-unfolding product
+unfolding product product_unsigned
 returns c =
-    let w = c in
-    let s = w in
-    let a = s.args.a in
-    let b = s.args.b in
-    let k : c.above.result ≡ bit (leb (2 ^ 32) (a * b)) =
-    c.above.ensures.0 ∙ ap (λ p. bit (leb (2 ^ 32) p)) w.wide-p.ensures in
-    let o : c.exceeds.result ≡ bit (not (fits (signed 32 a *ℤ signed 32 b))) =
-    c.exceeds.ensures.0
-    ∙ ap₂ (λ t m. bit (not (fits (with_sign t m)))) c.opposite.ensures
-    (w.wide-m.ensures ∙ ap₂ ◌*◌ w.magnitude.ensures w.magnitude-2.ensures)
-    ∙ ap (λ z. bit (not (fits z))) (sym (product_parts a b s.ranges.a.fits s.ranges.b.fits)) in
-    (flagged_same c.low_word.ensures k o, c.above.ensures.1, c.exceeds.ensures.1)
+    let a = c.args.a in
+    let b = c.args.b in
+    let f = c.ranges in
+    let m = c.mul_unsigned.ensures in
+    let s = c.overflowing_mul-overflow in
+    let x = cast_back a _ f.a.fits c.cast_signed.ensures in
+    let y = cast_back b _ f.b.fits c.cast_signed-2.ensures in
+    flagged_same
+    (ap (λ (r : Flagged). r.value) m ∙ sym (word_product a b f.a.fits f.b.fits))
+    (ap (λ (r : Flagged). r.carry) m)
+    (overflowed (signed 32 a *ℤ signed 32 b) s.result.1 (rw (x, y) at s.ensures.overflow))
