@@ -25,6 +25,6 @@ pub fn sign_extend(x: u32, k: u32) -> u32
     ensures { result ≡ extend true k x }
 {
     let half = power(k - 1);
-    let moved = std::num::wrapping_add_u32(x, half) % power(k);
-    std::num::wrapping_sub_u32(moved, half)
+    let moved = x.wrapping_add(half) % power(k);
+    moved.wrapping_sub(half)
 }

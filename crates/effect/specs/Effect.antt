@@ -1,7 +1,6 @@
 -- What an instruction may do: document 01, "One instruction" and its vectors; document 02, notes 2 and 4. What each operation does of it stands in action/specs/Operations.
 -- An instruction reads x : Inputs (its fields, its registers' values and its core's state before it) and has an Effect.
 use Rattle.std.specs.Prelude.{Bool, ℕ, eqb, if◌then◌else◌}
-use Rattle.bits.specs.Word.{bit}
 use Rattle.isa.specs.declared.vectors.Cause.{Cause}
 use Rattle.isa.specs.declared.vectors.Cause.TheVariants.{Bus, Alignment, Illegal, Range, Syscall, Trap, Interrupt}
 use Rattle.arith.specs.Bit.{set_bit}
@@ -88,7 +87,7 @@ abbrev pub saving : Inputs → Store → Effect
 saving x s = completed 0 0 x.sr (onward x) x.link running s
 
 -- l.swa, then: "it clears its own link either way"; F becomes flag
-abbrev pub unlinking : Inputs → ℕ → Store → Effect
+abbrev pub unlinking : Inputs → Bool → Store → Effect
 unlinking x flag s = completed 0 0 (set_bit F flag x.sr) (onward x) no_link running s
 
 -- ---- the accumulator
@@ -123,7 +122,7 @@ unfoldable pub raises : Inputs → ℕ → ℕ → ℕ → Cause → ℕ → Eff
 raises x place v sr cause eear = record {
   place = place;
   value = v;
-  sr = exception_sr (bit (in_slot x)) sr;
+  sr = exception_sr (in_slot x) sr;
   flow = record { pc = x.flow.pc; delay = 0; target = 0 };
   link = no_link;
   mode = running;

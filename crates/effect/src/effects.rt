@@ -1,6 +1,5 @@
 // What an action comes to: its effect, given what its instruction read.
-ghost use Rattle.std.specs.Prelude.{◌≡◌, ◌<◌};
-ghost use Rattle.bits.specs.Word.{bit};
+ghost use Rattle.std.specs.Prelude.{◌≡◌};
 ghost use Rattle.effect.specs.State.{running};
 ghost use Rattle.effect.specs.Effect.{no_link, no_store, in_slot, onward as onwardOf, completed, restart as restartOf, exception_pc, raises, unlinking, accumulating};
 ghost use Rattle.effect.specs.Inner.{effect_by};
@@ -159,7 +158,7 @@ fn load_linked_effect(x: Inputs, l: Linked) -> Effect
 
 // l.swa once its access is granted: `t` if its link was to that word.
 fn save_linked_effect(x: Inputs, t: bool, s: Store) -> Effect
-    ensures { result ≡ unlinking x (bit t) s }
+    ensures { result ≡ unlinking x t s }
 {
     let sr = arith::set_flag(x.sr, t);
     go_on(x, 0, 0, sr, no_link(), s)
@@ -215,13 +214,6 @@ fn exception_pc(x: Inputs, cause: Cause) -> u32
     }
 }
 
-// 1 in a slot.
-fn slot_bit(x: Inputs) -> u32
-    ensures { (result ≡ bit (in_slot x)) × (result < 2) }
-{
-    if in_slot(x) { 1 } else { 0 }
-}
-
 // The exception, once `value` went to `place` and SR became `sr`. Its commit goes to the vector.
 fn raise(x: Inputs, place: u32, value: u32, sr: u32, cause: Cause, eear: u32) -> Effect
     ensures { result ≡ raises x place value sr cause eear }
@@ -229,7 +221,7 @@ fn raise(x: Inputs, place: u32, value: u32, sr: u32, cause: Cause, eear: u32) ->
     Effect {
         place,
         value,
-        sr: arith::exception_sr(sr, slot_bit(x)),
+        sr: arith::exception_sr(sr, in_slot(x)),
         flow: Flow {
             pc: x.flow.pc,
             delay: 0,

@@ -5,4 +5,4 @@ pub returns : goal.returns
 unfolding raises
 returns c =
     let s = c in
-    simp (c.exception_pc.ensures, c.no_store.ensures, c.no_link.ensures, s.exception_sr.ensures, s.slot_bit.ensures.0)
+    simp (c.exception_pc.ensures, c.no_store.ensures, c.no_link.ensures, s.exception_sr.ensures, s.in_slot.ensures)
