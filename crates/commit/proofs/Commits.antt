@@ -12,11 +12,8 @@ use Rattle.effect.specs.declared.types.Inputs.{Inputs}
 use Rattle.effect.specs.declared.types.Action.{Action}
 use Rattle.effect.specs.declared.types.Effect.{Effect}
 use Rattle.effect.specs.declared.types.Store.{Store}
-use Rattle.effect.specs.declared.types.Accumulated.{Accumulated}
-use Rattle.effect.specs.declared.types.Accumulated.TheVariants.{Kept, Became}
 use Rattle.effect.specs.declared.types.Outcome.{Outcome}
 use Rattle.effect.specs.declared.types.Outcome.TheVariants.{Completed, Raised}
-use Rattle.effect.specs.contracts.types.Accumulated.{the_type as accumulations}
 use Rattle.effect.specs.contracts.types.Outcome.{the_type}
 use Rattle.commit.specs.Commit.{memory_after}
 use Rattle.commit.specs.Inner.{tells, entry_inputs, action_effect, Storable, none, some, Fits, Owned, Performed}
@@ -26,11 +23,6 @@ use Rattle.commit.specs.declared.Done.{Done}
 pub at_completed : (o : Outcome) → tag_of the_type o ≡ 0 → o ≡ Completed
 at_completed Completed h = refl
 at_completed (Raised x) h = absurd (omega arith)
-
--- and on what becomes of the accumulator
-pub at_kept : (a : Accumulated) → tag_of accumulations a ≡ 0 → a ≡ Kept
-at_kept Kept h = refl
-at_kept (Became m) h = absurd (omega arith)
 
 -- a store that stores has its bytes in memory; one that does not stores nothing
 pub can_store : {len : ℕ} {s : Store} → Storable len s → 0 < s.width → Width s.width × (s.address + s.width ≤ len)

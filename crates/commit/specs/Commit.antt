@@ -1,6 +1,6 @@
 -- What an instruction reads of its core's state, and what its effect leaves in memory and in every state: document 01, "What is lent" and "One
 -- instruction"; document 02, notes 2, 4 and 6. The states are one list, state_words for each core.
-use Rattle.std.specs.Prelude.{Bool, ◌&&◌, List, ℕ, zero, suc, ◌+◌, ◌*◌, ◌/◌, eqb, ltb, length, get_or, set, if◌then◌else◌}
+use Rattle.std.specs.Prelude.{Bool, ◌&&◌, List, Option, Some, None, ℕ, zero, suc, ◌+◌, ◌*◌, ◌/◌, eqb, ltb, length, get_or, set, if◌then◌else◌}
 use Rattle.isa.specs.declared.entry.Fields.{Fields}
 use Rattle.isa.specs.Vectors.{vector}
 use Rattle.isa.specs.declared.vectors.Cause.TheVariants.{Bus}
@@ -9,8 +9,7 @@ use Rattle.effect.specs.State.{state_words, pc_at, delay_at, target_at, sr_at, e
 use Rattle.effect.specs.Effect.{faults}
 use Rattle.effect.specs.declared.types.Inputs.{Inputs}
 use Rattle.effect.specs.declared.types.Effect.{Effect}
-use Rattle.effect.specs.declared.types.Accumulated.{Accumulated}
-use Rattle.effect.specs.declared.types.Accumulated.TheVariants.{Kept, Became}
+use Rattle.product.specs.declared.Accumulator.{Accumulator}
 use Rattle.effect.specs.declared.types.Outcome.{Outcome}
 use Rattle.effect.specs.declared.types.Outcome.TheVariants.{Completed, Raised}
 
@@ -58,9 +57,9 @@ put_status s core e =
     put (put (put (put s core sr_at e.sr) core link_at e.link.held) core link_address_at e.link.address) core mode_at e.mode
 
 -- MACHI and MACLO, if the instruction accumulates or clears them
-unfoldable pub put_accumulated : Accumulated → List ℕ → ℕ → List ℕ
-put_accumulated Kept s core = s
-put_accumulated (Became m) s core = put (put s core machi_at m.high) core maclo_at m.low
+unfoldable pub put_accumulated : Option Accumulator → List ℕ → ℕ → List ℕ
+put_accumulated None s core = s
+put_accumulated (Some m) s core = put (put s core machi_at m.high) core maclo_at m.low
 
 -- an exception goes to its vector and leaves EPCR, EEAR and ESR too. Document 02, note 6: "whatever list passed loading, the step rules are
 -- read with it"

@@ -6,7 +6,7 @@ ghost use Rattle.commit.specs.Commit.{put_value, put_flow, put_status, put_accum
 ghost use Rattle.commit.specs.Inner.{Owned};
 
 use effect::state;
-use effect::types::{Accumulated, Effect, Exception, Outcome};
+use effect::types::{Effect, Exception, Outcome};
 use isa::vectors;
 use product::Accumulator;
 
@@ -42,20 +42,19 @@ fn put_status(own: &mut [u32], e: Effect)
 
 fn put_accumulator(own: &mut [u32], m: Accumulator)
     requires { state_words ≤ length own.old }
-    ensures { own.new ≡ put_accumulated (Accumulated.Became m) own.old 0 }
+    ensures { own.new ≡ put_accumulated (Some m) own.old 0 }
 {
     own[state::MACHI] = m.high;
     own[state::MACLO] = m.low;
 }
 
 // MACHI and MACLO, if they are not kept.
-fn put_accumulated(own: &mut [u32], accumulated: Accumulated)
+fn put_accumulated(own: &mut [u32], accumulated: Option<Accumulator>)
     requires { state_words ≤ length own.old }
     ensures { own.new ≡ put_accumulated accumulated own.old 0 }
 {
-    match accumulated {
-        Accumulated::Kept => {}
-        Accumulated::Became(m) => put_accumulator(own, m),
+    if let Some(m) = accumulated {
+        put_accumulator(own, m);
     }
 }
 

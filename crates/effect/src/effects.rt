@@ -8,7 +8,7 @@ ghost use Rattle.effect.specs.declared.types.Inputs.{Inputs};
 
 use crate::state;
 use crate::types::{
-    Accumulated, Action, Effect, Exception, Faulted, Flow, Inputs, Jumped, Link, Linked, Outcome,
+    Action, Effect, Exception, Faulted, Flow, Inputs, Jumped, Link, Linked, Outcome,
     Store, Written,
 };
 use isa::vectors::Cause;
@@ -60,7 +60,7 @@ fn complete(
         flow,
         link,
         mode,
-        accumulated: Accumulated::Kept,
+        accumulated: None,
         store,
         outcome: Outcome::Completed,
     }
@@ -177,7 +177,7 @@ fn accumulate_effect(x: Inputs, place: u32, value: u32, m: Accumulator) -> Effec
         flow: onward(x),
         link,
         mode: state::RUNNING,
-        accumulated: Accumulated::Became(m),
+        accumulated: Some(m),
         store: no_store(),
         outcome: Outcome::Completed,
     }
@@ -237,7 +237,7 @@ fn raise(x: Inputs, place: u32, value: u32, sr: u32, cause: Cause, eear: u32) ->
         },
         link: no_link(),
         mode: state::RUNNING,
-        accumulated: Accumulated::Kept,
+        accumulated: None,
         store: no_store(),
         outcome: Outcome::Raised(Exception {
             cause,

@@ -33,13 +33,6 @@ pub struct Exception {
     pub esr: u32,
 }
 
-// What becomes of MACHI and MACLO.
-#[derive(Clone, Copy)]
-pub enum Accumulated {
-    Kept,
-    Became(Accumulator),
-}
-
 // How a step ends.
 #[derive(Clone, Copy)]
 pub enum Outcome {
@@ -74,8 +67,8 @@ pub struct Inputs {
     pub picsr: u32,
 }
 
-// What an instruction does: the one word of its state that it writes besides SR, the flow, the link, the mode and the accumulator; its store; how it
-// ends.
+// What an instruction does: the one word of its state that it writes besides SR, the flow, the link, the mode and the accumulator; what MACHI and MACLO
+// become, if they do not stay; its store; how it ends.
 #[derive(Clone, Copy)]
 pub struct Effect {
     pub place: u32,
@@ -84,7 +77,7 @@ pub struct Effect {
     pub flow: Flow,
     pub link: Link,
     pub mode: u32,
-    pub accumulated: Accumulated,
+    pub accumulated: Option<Accumulator>,
     pub store: Store,
     pub outcome: Outcome,
 }
