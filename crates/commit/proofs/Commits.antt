@@ -3,26 +3,17 @@ use mathlib.Core.List.{List}
 use mathlib.Core.Path.{◌≡◌, refl, sym, ap, subst, ◌∙◌}
 use Prim.Native.Nat.{ℕ, zero, suc, ◌+◌, ◌≤◌, ◌<◌}
 use native.Mathlib.Omega.{arith}
-use denote.Enum.Declared.{tag_of}
 use Rattle.memory.specs.Memory.{Width, stored}
 use Rattle.effect.specs.State.{state_words}
-use Rattle.effect.specs.Effect.{no_store}
+use Rattle.effect.specs.Effect.{no_store, Outcome}
 use Rattle.effect.specs.Inner.{effect_by}
 use Rattle.effect.specs.declared.types.Inputs.{Inputs}
 use Rattle.effect.specs.declared.types.Action.{Action}
 use Rattle.effect.specs.declared.types.Effect.{Effect}
 use Rattle.effect.specs.declared.types.Store.{Store}
-use Rattle.effect.specs.declared.types.Outcome.{Outcome}
-use Rattle.effect.specs.declared.types.Outcome.TheVariants.{Completed, Raised}
-use Rattle.effect.specs.contracts.types.Outcome.{the_type}
 use Rattle.commit.specs.Commit.{memory_after}
 use Rattle.commit.specs.Inner.{tells, entry_inputs, action_effect, Storable, none, some, Fits, Owned, Performed}
 use Rattle.commit.specs.declared.Done.{Done}
-
--- an arm of a match on the outcome
-pub at_completed : (o : Outcome) → tag_of the_type o ≡ 0 → o ≡ Completed
-at_completed Completed h = refl
-at_completed (Raised x) h = absurd (omega arith)
 
 -- a store that stores has its bytes in memory; one that does not stores nothing
 pub can_store : {len : ℕ} {s : Store} → Storable len s → 0 < s.width → Width s.width × (s.address + s.width ≤ len)

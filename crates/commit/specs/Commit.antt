@@ -1,17 +1,15 @@
 -- What an instruction reads of its core's state, and what its effect leaves in memory and in every state: document 01, "What is lent" and "One
 -- instruction"; document 02, notes 2, 4 and 6. The states are one list, state_words for each core.
-use Rattle.std.specs.Prelude.{Bool, ◌&&◌, List, Option, Some, None, ℕ, zero, suc, ◌+◌, ◌*◌, ◌/◌, eqb, ltb, length, get_or, set, if◌then◌else◌}
+use Rattle.std.specs.Prelude.{Bool, ◌&&◌, List, Option, Some, None, ℕ, zero, suc, ◌+◌, ◌*◌, ◌/◌, eqb, ltb, length, get_or, set, Ok, Err, if◌then◌else◌}
 use Rattle.isa.specs.declared.entry.Fields.{Fields}
 use Rattle.isa.specs.Vectors.{vector}
 use Rattle.isa.specs.declared.vectors.Cause.TheVariants.{Bus}
 use Rattle.memory.specs.Memory.{stored}
 use Rattle.effect.specs.State.{state_words, pc_at, delay_at, target_at, sr_at, epcr_at, eear_at, esr_at, link_at, link_address_at, mode_at, machi_at, maclo_at, picmr_at, picsr_at}
-use Rattle.effect.specs.Effect.{faults}
+use Rattle.effect.specs.Effect.{faults, Outcome}
 use Rattle.effect.specs.declared.types.Inputs.{Inputs}
 use Rattle.effect.specs.declared.types.Effect.{Effect}
 use Rattle.product.specs.declared.Accumulator.{Accumulator}
-use Rattle.effect.specs.declared.types.Outcome.{Outcome}
-use Rattle.effect.specs.declared.types.Outcome.TheVariants.{Completed, Raised}
 
 -- the word at a place of a core's state, and the states with v there
 abbrev pub word_at : List ℕ → ℕ → ℕ → ℕ
@@ -64,14 +62,14 @@ put_accumulated (Some m) s core = put (put s core machi_at m.high) core maclo_at
 -- an exception goes to its vector and leaves EPCR, EEAR and ESR too. Document 02, note 6: "whatever list passed loading, the step rules are
 -- read with it"
 unfoldable pub put_exception : List ℕ → Outcome → List ℕ → ℕ → List ℕ
-put_exception vectors Completed s core = s
-put_exception vectors (Raised x) s core =
+put_exception vectors (Ok u) s core = s
+put_exception vectors (Err x) s core =
     put (put (put (put s core pc_at (vector vectors x.cause)) core epcr_at x.epcr) core eear_at x.eear) core esr_at x.esr
 
 -- "An exception adds 1 to raised."
 abbrev pub raised_by : Outcome → ℕ
-raised_by Completed = 0
-raised_by (Raised x) = 1
+raised_by (Ok u) = 0
+raised_by (Err x) = 1
 
 -- the states after a core's effect, before links are cleared
 unfoldable pub own_state : List ℕ → List ℕ → ℕ → Effect → List ℕ

@@ -5,10 +5,10 @@ use Rattle.isa.specs.declared.entry.Fields.{Fields}
 use Rattle.memory.specs.Memory.{Width}
 use Rattle.effect.specs.State.{state_words}
 use Rattle.effect.specs.Inner.{effect_by}
+use Rattle.effect.specs.Effect.{Outcome}
 use Rattle.effect.specs.declared.types.Inputs.{Inputs}
 use Rattle.effect.specs.declared.types.Effect.{Effect}
 use Rattle.effect.specs.declared.types.Store.{Store}
-use Rattle.effect.specs.declared.types.Outcome.{Outcome}
 use Rattle.effect.specs.declared.types.Action.{Action}
 use Rattle.commit.specs.Commit.{reads, own_state, memory_after}
 use Rattle.commit.specs.declared.Done.{Done}

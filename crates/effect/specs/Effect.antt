@@ -1,6 +1,6 @@
 -- What an instruction may do: document 01, "One instruction" and its vectors; document 02, notes 2 and 4. What each operation does of it stands in action/specs/Operations.
 -- An instruction reads x : Inputs (its fields, its registers' values and its core's state before it) and has an Effect.
-use Rattle.std.specs.Prelude.{Bool, ℕ, eqb, Option, Some, None, if◌then◌else◌}
+use Rattle.std.specs.Prelude.{Bool, ℕ, eqb, Option, Some, None, Result, Ok, Err, if◌then◌else◌}
 use Rattle.bits.specs.Word.{bit}
 use Rattle.isa.specs.declared.vectors.Cause.{Cause}
 use Rattle.isa.specs.declared.vectors.Cause.TheVariants.{Bus, Alignment, Illegal, Range, Syscall, Trap, Interrupt}
@@ -15,7 +15,7 @@ use Rattle.effect.specs.declared.types.Flow.{Flow}
 use Rattle.effect.specs.declared.types.Link.{Link}
 use Rattle.effect.specs.declared.types.Store.{Store}
 use Rattle.effect.specs.declared.types.Effect.{Effect}
-use Rattle.effect.specs.declared.types.Outcome.TheVariants.{Completed, Raised}
+use Rattle.effect.specs.declared.types.Exception.{Exception}
 
 -- "A cleared link has link address 0."
 abbrev pub no_link : Link
@@ -25,6 +25,8 @@ abbrev pub no_store : Store
 no_store = record { width = 0; address = 0; value = 0 }
 
 -- "A step ends in a completed instruction or in one exception, which carries its vector and address."
+abbrev pub Outcome : Type 0
+Outcome = Result Unit Exception
 
 -- A completed instruction: v goes to the word of its state at place ("Writes to r0 are dropped": place 0 is none), and SR, the flow, the
 -- link, the mode, MACHI and MACLO and a store are as given.
@@ -38,7 +40,7 @@ completing place v sr flow link mode accumulated store = record {
   mode = mode;
   accumulated = accumulated;
   store = store;
-  outcome = Completed;
+  outcome = Ok tt;
 }
 
 -- one that keeps MACHI and MACLO
@@ -127,7 +129,7 @@ raises x place v sr cause eear = record {
   mode = running;
   accumulated = None;
   store = no_store;
-  outcome = Raised (record { cause = cause; epcr = exception_pc x cause; eear = eear; esr = sr });
+  outcome = Err (record { cause = cause; epcr = exception_pc x cause; eear = eear; esr = sr });
 }
 
 -- "Bus and alignment put the failing address in EEAR, illegal its own; others keep it."

@@ -8,8 +8,7 @@ ghost use Rattle.effect.specs.declared.types.Inputs.{Inputs};
 
 use crate::state;
 use crate::types::{
-    Action, Effect, Exception, Faulted, Flow, Inputs, Jumped, Link, Linked, Outcome,
-    Store, Written,
+    Action, Effect, Exception, Faulted, Flow, Inputs, Jumped, Link, Linked, Store, Written,
 };
 use isa::vectors::Cause;
 use product::Accumulator;
@@ -62,7 +61,7 @@ fn complete(
         mode,
         accumulated: None,
         store,
-        outcome: Outcome::Completed,
+        outcome: Ok(()),
     }
 }
 
@@ -179,7 +178,7 @@ fn accumulate_effect(x: Inputs, place: u32, value: u32, m: Accumulator) -> Effec
         mode: state::RUNNING,
         accumulated: Some(m),
         store: no_store(),
-        outcome: Outcome::Completed,
+        outcome: Ok(()),
     }
 }
 
@@ -239,7 +238,7 @@ fn raise(x: Inputs, place: u32, value: u32, sr: u32, cause: Cause, eear: u32) ->
         mode: state::RUNNING,
         accumulated: None,
         store: no_store(),
-        outcome: Outcome::Raised(Exception {
+        outcome: Err(Exception {
             cause,
             epcr: exception_pc(x, cause),
             eear,

@@ -33,12 +33,8 @@ pub struct Exception {
     pub esr: u32,
 }
 
-// How a step ends.
-#[derive(Clone, Copy)]
-pub enum Outcome {
-    Completed,
-    Raised(Exception),
-}
+// How a step ends: in a completed instruction, or in one exception.
+pub type Outcome = Result<(), Exception>;
 
 // The numbers that every instruction of a run is given beside its core's state: how many cores there are, and how many bytes at the start of memory are
 // read-only. The list of vectors, which it is given too, is lent beside them: by value it would make every step dearer.

@@ -9,16 +9,15 @@ use lib.Dec.{T, eqb, ltb, ltb→lt}
 use lib.ListN.{length, length-set}
 use lib.Seq.{get_or-set_same, get_or-set_other}
 use borrow.Author.Tests.{ne_eqb, eqb-true, eqb-false, not-true}
-use Rattle.std.specs.Prelude.{Option, Some, None, if◌then◌else◌}
+use Rattle.std.specs.Prelude.{Option, Some, None, Ok, Err, if◌then◌else◌}
 use Rattle.bits.proofs.Tests.{and_left, and_right, of_T}
 use Rattle.bits.proofs.Cases.{if_law, if_both}
 use Rattle.isa.specs.Vectors.{vector}
 use Rattle.effect.specs.State.{state_words, pc_at, delay_at, target_at, sr_at, epcr_at, eear_at, esr_at, link_at, link_address_at, mode_at, machi_at, maclo_at, picmr_at, picsr_at}
 use Rattle.effect.specs.Board.{Board}
 use Rattle.product.specs.declared.Accumulator.{Accumulator}
+use Rattle.effect.specs.Effect.{Outcome}
 use Rattle.effect.specs.declared.types.Exception.{Exception}
-use Rattle.effect.specs.declared.types.Outcome.{Outcome}
-use Rattle.effect.specs.declared.types.Outcome.TheVariants.{Completed, Raised}
 use Rattle.effect.specs.declared.types.Effect.{Effect}
 use Rattle.commit.specs.Commit.{word_at, put, put_value, put_flow, put_status, put_accumulated, put_exception, own_state}
 use Rattle.lawful.specs.Inner.{Status, Multiple, LawfulVectors, Mask, own, LawfulState, LawfulWord, to_register, to_epcr, to_eear, to_esr, to_machi, to_maclo, to_picmr, to_picsr, LawfulOutcome, completes, raised, Lawful}
@@ -71,18 +70,18 @@ accumulations None l = l
 accumulations (Some m) l = (machi_at, m.high) ∷ (maclo_at, m.low) ∷ l
 
 abbrev exceptional : List ℕ → Outcome → List (ℕ × ℕ)
-exceptional vectors Completed = []
-exceptional vectors (Raised x) = (pc_at, vector vectors x.cause) ∷ (epcr_at, x.epcr) ∷ (eear_at, x.eear) ∷ (esr_at, x.esr) ∷ []
+exceptional vectors (Ok u) = []
+exceptional vectors (Err x) = (pc_at, vector vectors x.cause) ∷ (epcr_at, x.epcr) ∷ (eear_at, x.eear) ∷ (esr_at, x.esr) ∷ []
 
 -- what an effect puts there, after its value
 abbrev pub changes : List ℕ → Effect → Option Accumulator → Outcome → List (ℕ × ℕ)
 changes vectors e a o = always e (accumulations a (exceptional vectors o))
 
 pub changes_inside : (vectors : List ℕ) (e : Effect) (a : Option Accumulator) (o : Outcome) → T (inside (changes vectors e a o))
-changes_inside vectors e None Completed = tt
-changes_inside vectors e None (Raised x) = tt
-changes_inside vectors e (Some m) Completed = tt
-changes_inside vectors e (Some m) (Raised x) = tt
+changes_inside vectors e None (Ok u) = tt
+changes_inside vectors e None (Err x) = tt
+changes_inside vectors e (Some m) (Ok u) = tt
+changes_inside vectors e (Some m) (Err x) = tt
 
 pub own_puts : (vectors s : List ℕ) (core : ℕ) (e : Effect) → own_state vectors s core e ≡ puts (changes vectors e e.accumulated e.outcome) (put_value s core e) core
 unfolding own_state put_status put_flow put_accumulated put_exception
@@ -90,10 +89,10 @@ own_puts vectors s core e = go e.accumulated e.outcome
   where
     go : (a : Option Accumulator) (o : Outcome)
         → put_exception vectors o (put_accumulated a (put_status (put_flow (put_value s core e) core e) core e) core) core ≡ puts (changes vectors e a o) (put_value s core e) core
-    go None Completed = refl
-    go None (Raised x) = refl
-    go (Some m) Completed = refl
-    go (Some m) (Raised x) = refl
+    go None (Ok u) = refl
+    go None (Err x) = refl
+    go (Some m) (Ok u) = refl
+    go (Some m) (Err x) = refl
 
 -- some rule looks at the place; at MACHI, MACLO and PICSR none does
 abbrev pub ruled : ℕ → Bool
@@ -135,11 +134,11 @@ own_other vectors s core e c j h n g =
 
 -- ---- an exception goes to its vector
 
-vector_seen : (vectors : List ℕ) (e : Effect) (a : Option Accumulator) (x : Exception) (d : ℕ) → seen (changes vectors e a (Raised x)) pc_at d ≡ vector vectors x.cause
+vector_seen : (vectors : List ℕ) (e : Effect) (a : Option Accumulator) (x : Exception) (d : ℕ) → seen (changes vectors e a (Err x)) pc_at d ≡ vector vectors x.cause
 vector_seen vectors e None x d = refl
 vector_seen vectors e (Some m) x d = refl
 
-pub own_vector : (vectors s : List ℕ) (core : ℕ) (e : Effect) (x : Exception) → core * state_words + state_words ≤ length s → e.outcome ≡ Raised x
+pub own_vector : (vectors s : List ℕ) (core : ℕ) (e : Effect) (x : Exception) → core * state_words + state_words ≤ length s → e.outcome ≡ Err x
     → word_at (own_state vectors s core e) core pc_at ≡ vector vectors x.cause
 own_vector vectors s core e x fits h =
     let n : length (put_value s core e) ≡ length s = length_value s core e in
@@ -278,10 +277,10 @@ module _ {board : Board} (s : List ℕ) (core : ℕ) (fits : core * state_words 
 
 -- nothing but the value is put there
 picsr_unseen : (vectors : List ℕ) (e : Effect) (a : Option Accumulator) (o : Outcome) (d : ℕ) → seen (changes vectors e a o) picsr_at d ≡ d
-picsr_unseen vectors e None Completed d = refl
-picsr_unseen vectors e None (Raised x) d = refl
-picsr_unseen vectors e (Some m) Completed d = refl
-picsr_unseen vectors e (Some m) (Raised x) d = refl
+picsr_unseen vectors e None (Ok u) d = refl
+picsr_unseen vectors e None (Err x) d = refl
+picsr_unseen vectors e (Some m) (Ok u) d = refl
+picsr_unseen vectors e (Some m) (Err x) d = refl
 
 module _ (s : List ℕ) (core : ℕ) (fits : core * state_words + state_words ≤ length s) where
   value_picsr : (p v : ℕ) → LawfulWord (word_at s core picsr_at) p v → word_at (if eqb p 0 then s else put s core p v) core picsr_at ≤ word_at s core picsr_at
