@@ -3,7 +3,7 @@ use mathlib.Core.List.{List}
 use mathlib.Core.Path.{◌≡◌, refl, sym, ap, subst, ◌∙◌}
 use Prim.Native.Nat.{ℕ, zero, suc, ◌+◌, ◌≤◌, ◌<◌}
 use native.Mathlib.Omega.{arith}
-use Rattle.memory.specs.Memory.{Width, stored}
+use Rattle.std.specs.Prelude.{Option}
 use Rattle.effect.specs.State.{state_words}
 use Rattle.effect.specs.Effect.{no_store, Outcome}
 use Rattle.effect.specs.Inner.{effect_by}
@@ -11,19 +11,9 @@ use Rattle.effect.specs.declared.types.Inputs.{Inputs}
 use Rattle.effect.specs.declared.types.Action.{Action}
 use Rattle.effect.specs.declared.types.Effect.{Effect}
 use Rattle.effect.specs.declared.types.Store.{Store}
-use Rattle.commit.specs.Commit.{memory_after}
-use Rattle.commit.specs.Inner.{tells, entry_inputs, action_effect, Storable, none, some, Fits, Owned, Performed}
+use Rattle.commit.specs.Commit.{stored_by, memory_after}
+use Rattle.commit.specs.Inner.{tells, entry_inputs, action_effect, Fits, Owned, Performed}
 use Rattle.commit.specs.declared.Done.{Done}
-
--- a store that stores has its bytes in memory; one that does not stores nothing
-pub can_store : {len : ℕ} {s : Store} → Storable len s → 0 < s.width → Width s.width × (s.address + s.width ≤ len)
-can_store (none z) h = absurd (omega arith)
-can_store (some w i) h = (w, i)
-
-pub not_stored : (n : ℕ) (mem : List ℕ) (at v : ℕ) → n ≤ 0 → mem ≡ stored n mem at v
-unfolding stored
-not_stored zero mem at v h = refl
-not_stored (suc n) mem at v h = absurd (omega arith)
 
 -- the same effect under another name
 module _ {e e' : Effect} (p : e ≡ e') where
@@ -46,8 +36,8 @@ module _ {vectors own own' : List ℕ} {e : Effect} {o : Outcome} (h : Owned vec
 
   -- an effect that stores nothing leaves every memory as it is
   pub kept : e.store ≡ no_store → (mem : List ℕ) → Performed vectors mem own e mem own' (tells o no_store)
-  unfolding memory_after stored
-  kept n mem = performed (sym (ap (λ (s : Store). stored s.width mem s.address s.value) n)) (sym (ap (tells o) n))
+  unfolding memory_after
+  kept n mem = performed (sym (ap (λ (s : Option Store). stored_by s mem) n)) (sym (ap (tells o) n))
 
 -- ---- actions
 

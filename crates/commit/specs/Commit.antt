@@ -1,6 +1,6 @@
 -- What an instruction reads of its core's state, and what its effect leaves in memory and in every state: document 01, "What is lent" and "One
 -- instruction"; document 02, notes 2, 4 and 6. The states are one list, state_words for each core.
-use Rattle.std.specs.Prelude.{Bool, ◌&&◌, List, Option, Some, None, ℕ, zero, suc, ◌+◌, ◌*◌, ◌/◌, eqb, ltb, length, get_or, set, Ok, Err, if◌then◌else◌}
+use Rattle.std.specs.Prelude.{Bool, ◌&&◌, List, Option, Some, None, ℕ, zero, suc, ◌+◌, ◌*◌, ◌/◌, eqb, length, get_or, set, Ok, Err, is_some, if◌then◌else◌}
 use Rattle.isa.specs.declared.entry.Fields.{Fields}
 use Rattle.isa.specs.Vectors.{vector}
 use Rattle.isa.specs.declared.vectors.Cause.TheVariants.{Bus}
@@ -9,6 +9,7 @@ use Rattle.effect.specs.State.{state_words, pc_at, delay_at, target_at, sr_at, e
 use Rattle.effect.specs.Effect.{faults, Outcome}
 use Rattle.effect.specs.declared.types.Inputs.{Inputs}
 use Rattle.effect.specs.declared.types.Effect.{Effect}
+use Rattle.effect.specs.declared.types.Store.{Store}
 use Rattle.product.specs.declared.Accumulator.{Accumulator}
 
 -- the word at a place of a core's state, and the states with v there
@@ -85,20 +86,28 @@ unfoldable pub clear_links : ℕ → List ℕ → ℕ → List ℕ
 clear_links zero s w = s
 clear_links (suc n) s w = clear_link (clear_links n s w) n w
 
--- an effect stores if its width is not 0; the word that it touches
+-- an effect stores if it has a store; the word that it touches
 abbrev pub writes_memory : Effect → Bool
-writes_memory e = ltb 0 e.store.width
+writes_memory e = is_some e.store
+
+abbrev pub word_of : Option Store → ℕ
+word_of None = 0
+word_of (Some s) = s.address / 4
 
 abbrev pub touched : Effect → ℕ
-touched e = e.store.address / 4
+touched e = word_of e.store
 
 unfoldable pub states_after : List ℕ → List ℕ → ℕ → Effect → List ℕ
 states_after vectors s core e =
     if writes_memory e then clear_links (core_count s) (own_state vectors s core e) (touched e * 4) else
     own_state vectors s core e
 
+abbrev pub stored_by : Option Store → List ℕ → List ℕ
+stored_by None mem = mem
+stored_by (Some s) mem = stored s.width mem s.address s.value
+
 unfoldable pub memory_after : List ℕ → Effect → List ℕ
-memory_after mem e = stored e.store.width mem e.store.address e.store.value
+memory_after mem e = stored_by e.store mem
 
 -- an exception in place of an instruction has no fields
 abbrev pub no_fields : Fields

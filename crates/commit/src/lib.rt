@@ -2,10 +2,10 @@
 // Committing what an instruction does, in place: its core's own state, memory, and every core's link.
 ghost use Rattle.std.specs.Prelude.{◌≡◌, ◌≤◌, ◌<◌, length};
 ghost use Rattle.isa.specs.Vectors.{vector_count};
-ghost use Rattle.memory.specs.Memory.{stored as storedOf};
 ghost use Rattle.effect.specs.State.{state_words};
 ghost use Rattle.effect.specs.Inner.{effect_by};
 ghost use Rattle.effect.specs.declared.types.Inputs.{Inputs};
+ghost use Rattle.commit.specs.Commit.{stored_by};
 ghost use Rattle.commit.specs.Inner.{tells, OwnState, Storable, Fits, Performed, Committable, Acted, Commits};
 
 use crate::inputs::inputs_at;
@@ -16,32 +16,30 @@ pub mod inputs;
 pub mod links;
 pub mod own_state;
 
-// What an instruction tells the run: how it ends, and whether and where it stored.
+// What an instruction tells the run: how it ends, and at which address it stored, if it did.
 #[derive(Clone, Copy)]
 pub struct Done {
     pub outcome: Outcome,
-    pub stored: bool,
-    pub address: u32,
+    pub stored: Option<u32>,
 }
 
 // The bytes that an instruction stores.
-fn put_store(memory: &mut [u8], s: Store)
+fn put_store(memory: &mut [u8], s: Option<Store>)
     requires { Storable (length memory.old) s }
-    ensures { memory.new ≡ storedOf s.width memory.old s.address s.value }
+    ensures { memory.new ≡ stored_by s memory.old }
 {
-    if 0 < s.width {
+    if let Some(s) = s {
         memory::store(memory, s.address, s.width, s.value);
     }
 }
 
 // What an outcome and a store tell the run.
-fn tell(outcome: Outcome, s: Store) -> Done
+fn tell(outcome: Outcome, s: Option<Store>) -> Done
     ensures { result ≡ tells outcome s }
 {
     Done {
         outcome,
-        stored: 0 < s.width,
-        address: s.address,
+        stored: s.map(|s| s.address),
     }
 }
 

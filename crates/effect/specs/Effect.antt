@@ -21,8 +21,8 @@ use Rattle.effect.specs.declared.types.Exception.{Exception}
 abbrev pub no_link : Link
 no_link = record { held = 0; address = 0 }
 
-abbrev pub no_store : Store
-no_store = record { width = 0; address = 0; value = 0 }
+abbrev pub no_store : Option Store
+no_store = None
 
 -- "A step ends in a completed instruction or in one exception, which carries its vector and address."
 abbrev pub Outcome : Type 0
@@ -30,7 +30,7 @@ Outcome = Result Unit Exception
 
 -- A completed instruction: v goes to the word of its state at place ("Writes to r0 are dropped": place 0 is none), and SR, the flow, the
 -- link, the mode, MACHI and MACLO and a store are as given.
-abbrev pub completing : ℕ → ℕ → ℕ → Flow → Link → ℕ → Option Accumulator → Store → Effect
+abbrev pub completing : ℕ → ℕ → ℕ → Flow → Link → ℕ → Option Accumulator → Option Store → Effect
 completing place v sr flow link mode accumulated store = record {
   place = place;
   value = v;
@@ -44,7 +44,7 @@ completing place v sr flow link mode accumulated store = record {
 }
 
 -- one that keeps MACHI and MACLO
-abbrev pub completed : ℕ → ℕ → ℕ → Flow → Link → ℕ → Store → Effect
+abbrev pub completed : ℕ → ℕ → ℕ → Flow → Link → ℕ → Option Store → Effect
 completed place v sr flow link mode store = completing place v sr flow link mode None store
 
 abbrev pub in_slot : Inputs → Bool
@@ -85,10 +85,10 @@ linking x place v at = completed place v x.sr (onward x) (record { held = 1; add
 
 -- a store, once its access is granted
 abbrev pub saving : Inputs → Store → Effect
-saving x s = completed 0 0 x.sr (onward x) x.link running s
+saving x s = completed 0 0 x.sr (onward x) x.link running (Some s)
 
 -- l.swa, then: "it clears its own link either way"; F becomes flag
-abbrev pub unlinking : Inputs → ℕ → Store → Effect
+abbrev pub unlinking : Inputs → ℕ → Option Store → Effect
 unlinking x flag s = completed 0 0 (set_bit F flag x.sr) (onward x) no_link running s
 
 -- ---- the accumulator

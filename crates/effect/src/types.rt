@@ -17,7 +17,7 @@ pub struct Link {
     pub address: u32,
 }
 
-// The bytes that an instruction stores; width 0 is none.
+// The bytes that an instruction stores.
 #[derive(Clone, Copy)]
 pub struct Store {
     pub width: u32,
@@ -63,8 +63,8 @@ pub struct Inputs {
     pub picsr: u32,
 }
 
-// What an instruction does: the one word of its state that it writes besides SR, the flow, the link, the mode and the accumulator; what MACHI and MACLO
-// become, if they do not stay; its store; how it ends.
+// What an instruction does: the one word of its state that it writes besides SR, the flow, the link, the mode and the
+// accumulator; what MACHI and MACLO become, if they do not stay; its store, if it stores; how it ends.
 #[derive(Clone, Copy)]
 pub struct Effect {
     pub place: u32,
@@ -74,7 +74,7 @@ pub struct Effect {
     pub link: Link,
     pub mode: u32,
     pub accumulated: Option<Accumulator>,
-    pub store: Store,
+    pub store: Option<Store>,
     pub outcome: Outcome,
 }
 

@@ -1,10 +1,10 @@
 use mathlib.Core.Path.{sym, ap, subst, ◌∙◌}
 use lib.ListN.{length}
-use Rattle.memory.specs.Memory.{stored}
+use Rattle.std.specs.Prelude.{Option}
 use Rattle.effect.specs.declared.types.Store.{Store}
 use Rattle.effect.specs.declared.types.Inputs.{Inputs}
 use Rattle.effect.specs.Inner.{effect_by}
-use Rattle.commit.specs.Commit.{memory_after}
+use Rattle.commit.specs.Commit.{stored_by, memory_after}
 use Rattle.commit.specs.Inner.{entry_inputs, Storable}
 use Rattle.commit.proofs.Commits.{placed_as, owned_as}
 use Rattle.commit.proofs.other.Goals as goal
@@ -30,4 +30,4 @@ returns c =
     let e = c.effect_by.ensures ∙ ap (λ (x : Inputs). effect_by x a.action) x in
     let o = owned_as e c.commit_state-outcome.ensures in
     let s = c.store_of.ensures (entry_inputs a.own.now a.core a.entry) in
-    (c.put_store.ensures ∙ ap (λ (s : Store). stored s.width a.memory.now s.address s.value) s, o)
+    (c.put_store.ensures ∙ ap (λ (s : Option Store). stored_by s a.memory.now) s, o)

@@ -2,7 +2,6 @@ use mathlib.Core.Path.{◌≡◌, refl}
 use Rattle.effect.specs.Effect.{advances}
 use Rattle.effect.specs.Inner.{effect_by}
 use Rattle.effect.specs.declared.types.Action.TheVariants.{Advance}
-use Rattle.commit.specs.Inner.{none}
 use Rattle.commit.proofs.Commits.{as_action, fits_as, performed_as}
 use Rattle.commit.proofs.write.Goals as goal
 
@@ -13,7 +12,7 @@ settle-requires c =
     let p = c.requires in
     let told : Advance a.w ≡ Advance a.w = refl in
     let e = as_action _ _ _ told c.inputs_at.ensures c.advance_effect.ensures in
-    record { state_words_in_bounds = p.own_state.0; fits = fits_as e record { place_lt = p.place_lt_state_words; storable = none refl }; vectors_len = p.vectors_len }
+    record { state_words_in_bounds = p.own_state.0; fits = fits_as e record { place_lt = p.place_lt_state_words; storable = tt }; vectors_len = p.vectors_len }
 
 pub returns : goal.returns
 returns c =
