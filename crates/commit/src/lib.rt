@@ -51,6 +51,7 @@ fn done_by(outcome: Outcome, action: Action) -> Done
 }
 
 // An effect, and what it tells the run.
+#[tactic(auto, unfolding(crate::specs::Commit::memory_after))]
 fn settle(vectors: &[u32], memory: &mut [u8], own: &mut [u32], e: Effect) -> Done
     requires state_words_in_bounds { state_words ≤ length own.old }
     requires fits { Fits (length memory.old) e }
@@ -64,6 +65,7 @@ fn settle(vectors: &[u32], memory: &mut [u8], own: &mut [u32], e: Effect) -> Don
 }
 
 // Any action, and how it ends. It stands by itself, so that the frequent ones do not pay for the others.
+#[tactic(auto, unfolding(crate::specs::Commit::memory_after))]
 fn other(
     vectors: &[u32],
     memory: &mut [u8],
@@ -83,6 +85,7 @@ fn other(
 }
 
 // What is written by an instruction that goes on. Each of these reads its inputs itself, so that nothing is read that it does not use.
+#[tactic(auto, unfolding(effect::specs::Inner::effect_by, effect::specs::Effect::advances))]
 pub fn write(
     vectors: &[u32],
     memory: &mut [u8],
@@ -105,6 +108,7 @@ pub fn write(
 }
 
 // An action that is likely to go on.
+#[tactic(auto, unfolding(effect::specs::Inner::effect_by, effect::specs::Effect::advances))]
 pub fn advance(
     vectors: &[u32],
     memory: &mut [u8],

@@ -90,6 +90,7 @@ fn put_outcome(vectors: &[u32], own: &mut [u32], outcome: Outcome)
 }
 
 // The core's own state; answers how the step ends.
+#[tactic(auto, unfolding(crate::specs::Commit::own_state))]
 pub fn commit_state(vectors: &[u32], own: &mut [u32], e: Effect) -> Outcome
     requires state_words_in_bounds { state_words ≤ length own.old }
     requires place_lt_state_words { e.place < state_words }
