@@ -54,6 +54,7 @@ fn inputs_of(own: &[u32], core: usize, f: Fields) -> Inputs
 }
 
 // The same for the instruction of an entry.
+#[tactic(auto, unfolding(crate::specs::Inner::entry_inputs))]
 pub fn inputs_at(own: &[u32], core: usize, entry: u64) -> Inputs
     requires { OwnState own.now core }
     ensures { result ≡ entry_inputs own.now core entry }

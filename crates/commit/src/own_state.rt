@@ -6,11 +6,12 @@ ghost use Rattle.commit.specs.Commit.{put_value, put_flow, put_status, put_accum
 ghost use Rattle.commit.specs.Inner.{Owned};
 
 use effect::state;
-use effect::types::{Accumulated, Effect, Exception, Outcome};
+use effect::types::{Effect, Exception, Outcome};
 use isa::vectors;
 use product::Accumulator;
 
 // The register, or special-purpose register, that an effect writes; r0 is dropped.
+#[tactic(auto, unfolding(crate::specs::Commit::put_value))]
 fn put_value(own: &mut [u32], e: Effect)
     requires state_words_in_bounds { state_words ≤ length own.old }
     requires place_lt_state_words { e.place < state_words }
@@ -21,6 +22,7 @@ fn put_value(own: &mut [u32], e: Effect)
     }
 }
 
+#[tactic(auto, unfolding(crate::specs::Commit::put_flow))]
 fn put_flow(own: &mut [u32], e: Effect)
     requires { state_words ≤ length own.old }
     ensures { own.new ≡ put_flow own.old 0 e }
@@ -30,6 +32,7 @@ fn put_flow(own: &mut [u32], e: Effect)
     own[state::TARGET] = e.flow.target;
 }
 
+#[tactic(auto, unfolding(crate::specs::Commit::put_status))]
 fn put_status(own: &mut [u32], e: Effect)
     requires { state_words ≤ length own.old }
     ensures { own.new ≡ put_status own.old 0 e }
@@ -40,30 +43,32 @@ fn put_status(own: &mut [u32], e: Effect)
     own[state::MODE] = e.mode;
 }
 
+#[tactic(auto, unfolding(crate::specs::Commit::put_accumulated))]
 fn put_accumulator(own: &mut [u32], m: Accumulator)
     requires { state_words ≤ length own.old }
-    ensures { own.new ≡ put_accumulated (Accumulated.Became m) own.old 0 }
+    ensures { own.new ≡ put_accumulated (Some m) own.old 0 }
 {
     own[state::MACHI] = m.high;
     own[state::MACLO] = m.low;
 }
 
 // MACHI and MACLO, if they are not kept.
-fn put_accumulated(own: &mut [u32], accumulated: Accumulated)
+#[tactic(auto, unfolding(crate::specs::Commit::put_accumulated))]
+fn put_accumulated(own: &mut [u32], accumulated: Option<Accumulator>)
     requires { state_words ≤ length own.old }
     ensures { own.new ≡ put_accumulated accumulated own.old 0 }
 {
-    match accumulated {
-        Accumulated::Kept => {}
-        Accumulated::Became(m) => put_accumulator(own, m),
+    if let Some(m) = accumulated {
+        put_accumulator(own, m);
     }
 }
 
 // An exception's vector, EPCR, EEAR and ESR.
+#[tactic(auto, unfolding(crate::specs::Commit::put_exception))]
 fn put_raised(vectors: &[u32], own: &mut [u32], x: Exception)
     requires state_words_in_bounds { state_words ≤ length own.old }
     requires vectors_len { length vectors.now ≡ vector_count }
-    ensures { own.new ≡ put_exception vectors.now (Outcome.Raised x) own.old 0 }
+    ensures { own.new ≡ put_exception vectors.now (Err x) own.old 0 }
 {
     let cause = x.cause;
     own[state::PC] = vectors::vector(vectors, cause);
@@ -73,18 +78,19 @@ fn put_raised(vectors: &[u32], own: &mut [u32], x: Exception)
 }
 
 // What is left of an exception, if the step ends in one.
+#[tactic(auto, unfolding(crate::specs::Commit::put_exception))]
 fn put_outcome(vectors: &[u32], own: &mut [u32], outcome: Outcome)
     requires state_words_in_bounds { state_words ≤ length own.old }
     requires vectors_len { length vectors.now ≡ vector_count }
     ensures { own.new ≡ put_exception vectors.now outcome own.old 0 }
 {
-    match outcome {
-        Outcome::Completed => {}
-        Outcome::Raised(x) => put_raised(vectors, own, x),
+    if let Err(x) = outcome {
+        put_raised(vectors, own, x);
     }
 }
 
 // The core's own state; answers how the step ends.
+#[tactic(auto, unfolding(crate::specs::Commit::own_state))]
 pub fn commit_state(vectors: &[u32], own: &mut [u32], e: Effect) -> Outcome
     requires state_words_in_bounds { state_words ≤ length own.old }
     requires place_lt_state_words { e.place < state_words }

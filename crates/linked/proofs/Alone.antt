@@ -1,13 +1,11 @@
 -- A run in which no core is linked: each entry is its own core's alone. Assumes nothing.
-use Rattle.std.proofs.Common.{◌≡◌, ℕ, zero, suc, ◌+◌, ◌-◌, ◌*◌, ◌<◌, true, false, List, [], ◌∷◌, length, get_or, sym, refl, ap, ◌∙◌, true≢false, add-one, arith, eq-eqb, ne_eqb}
+use Rattle.std.proofs.Common.{◌≡◌, ℕ, zero, suc, ◌+◌, ◌-◌, ◌*◌, ◌<◌, true, false, List, [], ◌∷◌, length, get_or, sym, refl, ap, ◌∙◌, true≢false, add-one, arith, eq-eqb, ne_eqb, Option, Some, None, Ok, Err}
 use mathlib.Core.Bool.{or-true}
 use Rattle.bits.proofs.Cases.{if_both, by_equality}
 use Rattle.effect.specs.State.{mode_at, linked}
 use Rattle.effect.specs.Board.{Board}
-use Rattle.effect.specs.declared.types.Accumulated.{Accumulated}
-use Rattle.effect.specs.declared.types.Accumulated.TheVariants.{Kept, Became}
-use Rattle.effect.specs.declared.types.Outcome.{Outcome}
-use Rattle.effect.specs.declared.types.Outcome.TheVariants.{Completed, Raised}
+use Rattle.product.specs.declared.Accumulator.{Accumulator}
+use Rattle.effect.specs.Effect.{Outcome}
 use Rattle.effect.specs.declared.types.Effect.{Effect}
 use Rattle.commit.specs.Commit.{word_at, core_count, put_value, own_state, writes_memory, touched, states_after}
 use Rattle.lawful.specs.Inner.{LawfulVectors, OwnMode, is_halted, is_running_lem, Lawful}
@@ -51,11 +49,11 @@ none_follow board lead (suc n) x h k = rw (none_follow board lead n x (omega ari
 
 -- ---- an effect leaves its core in its mode
 
-mode_seen : (vectors : List ℕ) (e : Effect) (a : Accumulated) (o : Outcome) (d : ℕ) → seen (changes vectors e a o) mode_at d ≡ e.mode
-mode_seen vectors e Kept Completed d = refl
-mode_seen vectors e Kept (Raised x) d = refl
-mode_seen vectors e (Became m) Completed d = refl
-mode_seen vectors e (Became m) (Raised x) d = refl
+mode_seen : (vectors : List ℕ) (e : Effect) (a : Option Accumulator) (o : Outcome) (d : ℕ) → seen (changes vectors e a o) mode_at d ≡ e.mode
+mode_seen vectors e None (Ok u) d = refl
+mode_seen vectors e None (Err x) d = refl
+mode_seen vectors e (Some m) (Ok u) d = refl
+mode_seen vectors e (Some m) (Err x) d = refl
 
 module _ (vectors s : List ℕ) (core : ℕ) (e : Effect) where
   mode_own : core < core_count s → word_at (own_state vectors s core e) core mode_at ≡ e.mode
