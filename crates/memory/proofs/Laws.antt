@@ -9,7 +9,6 @@ use native.Mathlib.Omega.{arith}
 use borrow.Author.Rules.{rules}
 use lib.Dec.{ltb}
 use borrow.Author.Tests.{lt-ltb, le-ltb, ltb-false}
-use denote.Enum.Declared.{tag_of}
 use lib.Arith.{mod-mul, digits_lt}
 use lib.ListN.{length, get_or, set, length-set}
 use lib.Seq.{get_or-set_same, get_or-set_other}
@@ -17,10 +16,9 @@ use Rattle.std.specs.Prelude.{if◌then◌else◌}
 use Rattle.bits.proofs.Cases.{if_both}
 use Rattle.isa.specs.declared.vectors.Cause.{Cause}
 use Rattle.isa.specs.declared.vectors.Cause.TheVariants.{Bus, Alignment}
-use Rattle.memory.specs.Memory.{Width, byte_wide, half_wide, word_wide, loaded, stored, memory_word, no_limit, access, cause_of}
-use Rattle.memory.specs.declared.Access.{Access}
-use Rattle.memory.specs.declared.Access.TheVariants.{Granted, Fault}
-use Rattle.memory.specs.contracts.Access.{the_type}
+use Rattle.memory.specs.Memory.{Width, byte_wide, half_wide, word_wide, bytes, loaded, stored, memory_word, no_limit, access}
+use Rattle.memory.specs.declared.Width as declared
+use Rattle.memory.specs.declared.Width.TheVariants.{Byte, Half, Word}
 
 -- the list of a slice of u8 is so
 abbrev pub AllBytes : List ℕ → Type 0
@@ -99,6 +97,12 @@ other_word_kept n m at v k h g = loaded_elsewhere 4 n m at v (4 * k) (λ p q. g 
 
 -- ---- widths
 
+-- the code's widths
+pub width_of : (w : declared.Width) → Width (bytes w)
+width_of Byte = byte_wide
+width_of Half = half_wide
+width_of Word = word_wide
+
 -- a width in a form that `omega` reads
 pub record Bounds (n : ℕ) : Type 0 where
   pub positive : 0 < n
@@ -174,9 +178,3 @@ module _ (n limit len at : ℕ) (e : access n limit len at ≡ none) where
 
   pub granted_in_word : Width n → at % 4 + n ≤ 4
   granted_in_word w = aligned_in_word w at granted_aligned
-
--- ---- the answer in an arm of a `match`, which knows its tag
-
-pub granted_tag : (a : Access) → tag_of the_type a ≡ 0 → cause_of a ≡ none
-granted_tag Granted h = refl
-granted_tag (Fault cause) h = absurd (omega (arith, h))

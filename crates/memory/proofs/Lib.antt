@@ -1,3 +1,3 @@
--- Laws: what other crates cite. Halves: what only the proofs of the functions here cite.
+-- Laws: what other crates cite. Bytes: what only the proofs of the functions here cite.
 pub mod Laws
-pub mod Halves
+pub mod Bytes

@@ -1,16 +1,22 @@
 -- Memory is a list of bytes, the first at address 0. An access is to the n bytes from the address `at` on.
-use Rattle.std.specs.Prelude.{List, ℕ, zero, suc, ◌+◌, ◌*◌, ◌/◌, ◌%◌, ◌^◌, get_or, set, ltb, if◌then◌else◌}
+use Rattle.std.specs.Prelude.{List, Result, Ok, Err, ⊤, ℕ, zero, suc, ◌+◌, ◌*◌, ◌/◌, ◌%◌, ◌^◌, get_or, set, ltb, if◌then◌else◌}
 use Rattle.std.proofs.Math.Option.{Option, none, some}
 use Rattle.isa.specs.declared.vectors.Cause.{Cause}
 use Rattle.isa.specs.declared.vectors.Cause.TheVariants.{Bus, Alignment}
-use Rattle.memory.specs.declared.Access.{Access}
-use Rattle.memory.specs.declared.Access.TheVariants.{Granted, Fault}
+use Rattle.memory.specs.declared.Width as declared
+use Rattle.memory.specs.declared.Width.TheVariants.{Byte, Half, Word}
 
 -- the widths of an access. One instruction: "words 4, halves 2"; a byte is 1
 pub data Width : ℕ → Type 0 where
   byte_wide : Width 1
   half_wide : Width 2
   word_wide : Width 4
+
+-- how many bytes an access of the code's is to
+abbrev pub bytes : declared.Width → ℕ
+bytes Byte = 1
+bytes Half = 2
+bytes Word = 4
 
 -- What is lent: "from address 0, high byte first". The number that n bytes stand for: its digits in base 256 are the bytes,
 -- the highest at the lowest address. (Past the end of memory 0 is read; no access that is granted gets there)
@@ -42,6 +48,6 @@ access n limit len at =
     (if ltb len (at + n) then some Bus else none))
 
 -- the same of the code's answer
-abbrev pub cause_of : Access → Option Cause
-cause_of Granted = none
-cause_of (Fault cause) = some cause
+abbrev pub cause_of : Result ⊤ Cause → Option Cause
+cause_of (Ok x) = none
+cause_of (Err cause) = some cause

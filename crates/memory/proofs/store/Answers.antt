@@ -1,20 +1,22 @@
--- Each width has its own store; a width that is neither 1 nor 2 is 4.
-use mathlib.Core.Path.{◌≡◌, ◌∙◌}
-use native.Mathlib.Omega.{arith}
-use Rattle.memory.proofs.Laws.{bounds}
+-- The bytes of v, the highest first; of a half those from the third on, of a byte the last.
+use Rattle.std.proofs.Common.{◌∙◌, ap, arith, take, drop}
+use native.Mathlib.Nat.{div-one}
+use Rattle.memory.specs.Memory.{stored}
+use Rattle.memory.proofs.Bytes.{part_put}
 use Rattle.memory.proofs.store.Goals as goal
 
-pub returns-then-width-eq1 : goal.returns-then-width-eq1
-returns-then-width-eq1 c = c.store_byte.ensures ∙ rw c.if-width-eq1.true
+pub returns-in-Byte : goal.returns-in-Byte
+unfolding stored
+returns-in-Byte c = rw (c.in-Byte.is, c.to_be_bytes-bytes.ensures, div-one c.args.v)
 
-pub returns-then-width-eq2 : goal.returns-then-width-eq2
-returns-then-width-eq2 c = c.store_half.ensures ∙ rw c.if-width-eq2.true
+pub returns-in-Half : goal.returns-in-Half
+returns-in-Half c =
+    let a = c.args in
+    let h = c.in-Half.is in
+    rw h (part_put 2 _ _ _ _ a.v (omega arith) (rw h at c.requires) (c.copy_from_slice.ensures.after ∙ ap (λ l. take 2 (drop 2 l)) c.to_be_bytes-bytes.ensures))
 
-pub store_word-requires : goal.store_word-requires
-store_word-requires c = let b = bounds c.requires.0 in omega arith
-
-pub returns : goal.returns
-returns c =
-    let b = bounds c.requires.0 in
-    let e : c.args.width ≡ 4 = omega arith in
-    c.store_word.ensures ∙ rw e
+pub returns-in-Word : goal.returns-in-Word
+returns-in-Word c =
+    let a = c.args in
+    let h = c.in-Word.is in
+    rw h (part_put 4 _ _ _ _ a.v (omega arith) (rw h at c.requires) (c.copy_from_slice-in-Word.ensures.after ∙ c.to_be_bytes-bytes.ensures))
