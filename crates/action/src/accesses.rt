@@ -1,6 +1,5 @@
 // Loads, stores and the cache instructions: each tests its access first. Stores and l.swa are held against the limit of what is read-only.
 ghost use Rattle.std.specs.Prelude.{◌≡◌, if◌then◌else◌};
-ghost use Rattle.bits.specs.Word.{bit};
 ghost use Rattle.memory.specs.Memory.{Width};
 ghost use Rattle.effect.specs.Effect.{unlinking, no_store};
 ghost use Rattle.effect.specs.Inner.{effect_by};
@@ -73,15 +72,12 @@ pub fn store(limit: u32, x: Inputs, len: usize, width: u32) -> Action
 fn linked(x: Inputs) -> bool
     ensures { result ≡ linkedOf x }
 {
-    if x.link.held == 1 {
-        x.link.address == address(x)
-    } else {
-        false
-    }
+    x.link.held == 1 && x.link.address == address(x)
 }
 
+#[tactic(auto, unfolding(effect::specs::Inner::effect_by))]
 fn conditional(x: Inputs) -> Action
-    ensures { effect_by x result ≡ unlinking x (bit (linkedOf x)) (if linkedOf x then storingOf x 4 else no_store) }
+    ensures { effect_by x result ≡ unlinking x (linkedOf x) (if linkedOf x then storingOf x 4 else no_store) }
 {
     if linked(x) {
         return Action::SaveLinked(storing(x, 4));

@@ -1,4 +1,0 @@
-use Rattle.action.proofs.accesses.storing.Goals as goal
-
-pub returns : goal.returns
-returns c = simp c.address.ensures
