@@ -1,3 +1,2 @@
--- Operations: what each does. Inner serves the code.
+-- What each operation does.
 pub mod Operations
-pub mod Inner

@@ -1,8 +1,8 @@
 -- What the operations of instructions do: document 01, "One instruction"; document 02, notes 1, 2, 4 and 5. Each is an effect of what its instruction reads, x : Inputs.
-use Rattle.std.specs.Prelude.{Bool, ◌&&◌, List, Some, None, ℕ, ◌*◌, ◌%◌, eqb, ltb, length, if◌then◌else◌}
+use Rattle.std.specs.Prelude.{Bool, ◌&&◌, List, Some, None, ℕ, ◌*◌, ◌%◌, eqb, ltb, length, if◌then◌else◌, true, false}
 use Rattle.std.proofs.Math.Option.{Option, none, some}
 use Rattle.std.specs.Int.Bits.{bit_and, bit_or}
-use Rattle.bits.specs.Word.{bit, extend}
+use Rattle.bits.specs.Word.{extend}
 use Rattle.isa.specs.declared.vectors.Cause.{Cause}
 use Rattle.isa.specs.declared.vectors.Cause.TheVariants.{Alignment, Illegal, Syscall, Trap}
 use Rattle.arith.specs.Bit.{is_set, set_bit}
@@ -26,7 +26,7 @@ nothing x = advances x 0 0 x.sr
 
 -- the set-flag instructions
 unfoldable pub sets_flag : Inputs → Bool → Effect
-sets_flag x t = advances x 0 0 (set_bit F (bit t) x.sr)
+sets_flag x t = advances x 0 0 (set_bit F t x.sr)
 
 -- "l.nop with immediate 1 advances, then halts its core; other nops and the syncs only advance."
 unfoldable pub nop : Inputs → Effect
@@ -59,7 +59,7 @@ flags x f = set_carry_overflow f.carry f.overflow x.sr
 -- written, as l.add does."
 unfoldable pub result_or_raises : Inputs → Flagged → Effect
 result_or_raises x f =
-    if is_set OVE x.sr && eqb f.overflow 1 then raises_range x x.d f.value (flags x f) else
+    if is_set OVE x.sr && f.overflow then raises_range x x.d f.value (flags x f) else
     advances x x.d f.value (flags x f)
 
 -- ---- divisions
@@ -67,12 +67,12 @@ result_or_raises x f =
 -- "A zero divisor sets CY, keeps rD and raises range under OVE;" "both divisions set OV to 0."
 abbrev pub divides_by_zero : Inputs → Effect
 divides_by_zero x =
-    if is_set OVE x.sr then raises_range x 0 0 (set_carry_overflow 1 0 x.sr) else
-    advances x 0 0 (set_carry_overflow 1 0 x.sr)
+    if is_set OVE x.sr then raises_range x 0 0 (set_carry_overflow true false x.sr) else
+    advances x 0 0 (set_carry_overflow true false x.sr)
 
 -- "other divisors clear CY." q is the quotient by rB
 unfoldable pub divides : Inputs → ℕ → Effect
-divides x q = if eqb x.b 0 then divides_by_zero x else advances x x.d q (set_carry_overflow 0 0 x.sr)
+divides x q = if eqb x.b 0 then divides_by_zero x else advances x x.d q (set_carry_overflow false false x.sr)
 
 -- ---- the accumulator
 
@@ -144,7 +144,7 @@ abbrev pub linked : Inputs → Bool
 linked x = eqb x.link.held 1 && eqb x.link.address (effective_address x)
 
 unfoldable pub store_conditional : ℕ → Inputs → ℕ → Effect
-store_conditional limit x len = reaches x 4 limit len (unlinking x (bit (linked x)) (if linked x then Some (storing x 4) else None))
+store_conditional limit x len = reaches x 4 limit len (unlinking x (linked x) (if linked x then Some (storing x 4) else None))
 
 -- "p.* tests its one byte and does no more."
 unfoldable pub touch : Inputs → ℕ → Effect

@@ -74,16 +74,12 @@ pub fn store(limit: u32, x: Inputs, len: usize, width: Width) -> Action
 fn linked(x: Inputs) -> bool
     ensures { result ≡ linkedOf x }
 {
-    if x.link.held == 1 {
-        x.link.address == address(x)
-    } else {
-        false
-    }
+    x.link.held == 1 && x.link.address == address(x)
 }
 
 #[tactic(auto, unfolding(effect::specs::Inner::effect_by))]
 fn conditional(x: Inputs) -> Action
-    ensures { effect_by x result ≡ unlinking x (bit (linkedOf x)) (if linkedOf x then Some (storingOf x 4) else None) }
+    ensures { effect_by x result ≡ unlinking x (linkedOf x) (if linkedOf x then Some (storingOf x 4) else None) }
 {
     if linked(x) {
         return Action::SaveLinked(storing(x, Width::Word));

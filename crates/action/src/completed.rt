@@ -23,6 +23,7 @@ pub fn nothing(x: Inputs) -> Written
     written(0, 0, x.sr)
 }
 
+#[tactic(auto, unfolding(crate::specs::Operations::sets_flag))]
 pub fn set_flag(x: Inputs, t: bool) -> Written
     ensures { goes_on x result ≡ sets_flag x t }
 {
@@ -30,6 +31,7 @@ pub fn set_flag(x: Inputs, t: bool) -> Written
 }
 
 // l.nop 1 halts its core.
+#[tactic(auto, unfolding(crate::specs::Operations::nop, effect::specs::Inner::effect_by))]
 pub fn nop(x: Inputs) -> Action
     ensures { effect_by x result ≡ nopOf x }
 {

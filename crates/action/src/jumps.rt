@@ -10,6 +10,7 @@ use effect::effects;
 use effect::types::{Action, Inputs, Jumped};
 use isa::vectors::Cause;
 
+#[tactic(auto, unfolding(effect::specs::Inner::effect_by))]
 fn jump_to(place: u32, value: u32, target: u32) -> Action
     ensures { (x : Inputs) → effect_by x result ≡ jumping x place value target }
 {
@@ -20,6 +21,7 @@ fn jump_to(place: u32, value: u32, target: u32) -> Action
     })
 }
 
+#[tactic(auto, unfolding(crate::specs::Operations::jump))]
 pub fn jump(x: Inputs, place: u32, value: u32, to: u32) -> Action
     ensures { effect_by x result ≡ jumpOf x place value to }
 {
@@ -43,6 +45,7 @@ pub fn after_slot(x: Inputs) -> u32
     arith::address_add(x.flow.pc, 8)
 }
 
+#[tactic(auto, unfolding(crate::specs::Operations::branch))]
 pub fn branch(x: Inputs, taken: bool) -> Action
     ensures { effect_by x result ≡ branchOf x taken }
 {
@@ -53,6 +56,7 @@ pub fn branch(x: Inputs, taken: bool) -> Action
 }
 
 // To the address in rB, which must be a multiple of 4.
+#[tactic(auto, unfolding(crate::specs::Operations::register_jump))]
 pub fn register_jump(x: Inputs, place: u32, value: u32) -> Action
     ensures { effect_by x result ≡ register_jump x place value }
 {
@@ -65,6 +69,7 @@ pub fn register_jump(x: Inputs, place: u32, value: u32) -> Action
     jump_to(place, value, x.b)
 }
 
+#[tactic(auto, unfolding(crate::specs::Operations::returns, effect::specs::Inner::effect_by))]
 pub fn return_from_exception(x: Inputs) -> Action
     ensures { effect_by x result ≡ returns x }
 {

@@ -1,7 +1,6 @@
 #![tactic(auto)]
 // The operations: each answers an instruction's action, from what it read.
 pub mod accesses;
-pub mod accumulator;
 pub mod completed;
 pub mod divisions;
 pub mod jumps;

@@ -9,6 +9,7 @@ use effect::effects;
 use effect::types::{Action, Faulted, Inputs};
 use isa::vectors::Cause;
 
+#[tactic(auto, unfolding(effect::specs::Inner::effect_by))]
 pub fn fault(cause: Cause, eear: u32) -> Action
     ensures { (x : Inputs) → effect_by x result ≡ faults x cause eear }
 {
@@ -27,6 +28,7 @@ pub fn trap(x: Inputs) -> Action
     fault(Cause::Trap, x.eear)
 }
 
+#[tactic(auto, unfolding(crate::specs::Operations::syscall))]
 pub fn syscall(x: Inputs) -> Action
     ensures { effect_by x result ≡ syscallOf x }
 {

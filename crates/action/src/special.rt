@@ -7,6 +7,7 @@ use crate::completed;
 use effect::state;
 use effect::types::{Inputs, Written};
 
+#[tactic(auto, unfolding(crate::specs::Operations::special_register))]
 pub fn read(cores: u32, x: Inputs, n: u32) -> u32
     ensures { result ≡ special_register cores x n }
 {
@@ -25,6 +26,7 @@ pub fn read(cores: u32, x: Inputs, n: u32) -> u32
     }
 }
 
+#[tactic(auto, unfolding(crate::specs::Operations::sets_special_register))]
 pub fn write(x: Inputs, n: u32, v: u32) -> Written
     ensures { goes_on x result ≡ sets_special_register x n v }
 {

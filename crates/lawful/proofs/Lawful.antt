@@ -1,8 +1,8 @@
 -- Every instruction's effect obeys the rules on a core's state, if what it reads does. Assumes nothing.
-use mathlib.Core.Bool.{Bool, ◌&&◌}
+use mathlib.Core.Bool.{Bool, true, false, ◌&&◌}
 use mathlib.Core.List.{List}
 use mathlib.Core.Path.{◌≡◌, refl, ap₂, ◌∙◌}
-use Prim.Native.Nat.{ℕ, ◌+◌, ◌%◌, ◌<◌, ◌≤◌}
+use Prim.Native.Nat.{ℕ, ◌+◌, ◌%◌, ◌≤◌}
 use native.Mathlib.Omega.{arith}
 use lib.Bits.{bit_and, bit_or, or_mod, and_mask, and_le_l, or_add_and}
 use lib.Dec.{eqb, ltb}
@@ -22,7 +22,7 @@ use Rattle.arith.specs.Sums.{address_sum, address_difference}
 use Rattle.arith.specs.declared.Flagged.{Flagged}
 use Rattle.arith.proofs.Integer.{by_sign, sub_sub, sub_zero}
 use Rattle.arith.proofs.Status.{allowed_flag, allowed_carry_overflow, allowed_exception, allowed_again, aligned_multiple}
-use Rattle.arith.proofs.Sums.{Ranged, bit_lt, address_sum_multiple}
+use Rattle.arith.proofs.Sums.{address_sum_multiple}
 use Rattle.memory.specs.Memory.{no_limit}
 use Rattle.memory.proofs.Laws.{granted_aligned}
 use Rattle.product.specs.declared.Accumulator.{Accumulator}
@@ -96,7 +96,7 @@ module _ (x : Inputs) (i : LawfulInputs x) where
 
   pub flag_lawful : (t : Bool) → Lawful x.picsr (sets_flag x t)
   unfolding sets_flag
-  flag_lawful t = advances_lawful 0 0 _ (to_register (omega arith)) (allowed_flag x.sr i.sr_lawful (bit t) (bit_lt t))
+  flag_lawful t = advances_lawful 0 0 _ (to_register (omega arith)) (allowed_flag x.sr i.sr_lawful t)
 
   pub nop_lawful : Lawful x.picsr (nop x)
   unfolding nop
@@ -121,7 +121,7 @@ module _ (x : Inputs) (i : LawfulInputs x) where
         word_lawful = w;
         flow_lawful = straight _ i.flow_lawful.pc_multiple;
         link_lawful = no_link_lawful;
-        sr_lawful = allowed_exception sr s (bit (in_slot x)) (bit_lt (in_slot x));
+        sr_lawful = allowed_exception sr s (in_slot x);
         mode_lawful = is_running_lem;
         outcome_lawful = raised (exception_pc_multiple cause) s;
       }
@@ -133,27 +133,27 @@ module _ (x : Inputs) (i : LawfulInputs x) where
   unfolding syscall
   syscall_lawful = if_both (Lawful x.picsr) (in_slot x) (faults_lawful _ _) (faults_lawful _ _)
 
-  flags_lawful : (f : Flagged) → Ranged f → Status (flags x f)
-  flags_lawful f r = allowed_carry_overflow x.sr i.sr_lawful f.carry f.overflow r.carry_lt r.overflow_lt
+  flags_lawful : (f : Flagged) → Status (flags x f)
+  flags_lawful f = allowed_carry_overflow x.sr i.sr_lawful f.carry f.overflow
 
-  pub result_lawful : (f : Flagged) → Ranged f → Lawful x.picsr (result_or_raises x f)
+  pub result_lawful : (f : Flagged) → Lawful x.picsr (result_or_raises x f)
   unfolding result_or_raises
-  result_lawful f r =
-      if_both (Lawful x.picsr) (is_set OVE x.sr && eqb f.overflow 1)
-      (raises_lawful x.d f.value _ _ _ (to_register i.register) (flags_lawful f r))
-      (advances_lawful x.d f.value _ (to_register i.register) (flags_lawful f r))
+  result_lawful f =
+      if_both (Lawful x.picsr) (is_set OVE x.sr && f.overflow)
+      (raises_lawful x.d f.value _ _ _ (to_register i.register) (flags_lawful f))
+      (advances_lawful x.d f.value _ (to_register i.register) (flags_lawful f))
 
-  divide_flags_lawful : (cy : ℕ) → cy < 2 → Status (set_carry_overflow cy 0 x.sr)
-  divide_flags_lawful cy h = allowed_carry_overflow x.sr i.sr_lawful cy 0 h (omega arith)
+  divide_flags_lawful : (cy : Bool) → Status (set_carry_overflow cy false x.sr)
+  divide_flags_lawful cy = allowed_carry_overflow x.sr i.sr_lawful cy false
 
   pub divides_lawful : (q : ℕ) → Lawful x.picsr (divides x q)
   unfolding divides
   divides_lawful q =
       if_both (Lawful x.picsr) (eqb x.b 0)
       (if_both (Lawful x.picsr) (is_set OVE x.sr)
-      (raises_lawful 0 0 _ _ _ (to_register (omega arith)) (divide_flags_lawful 1 (omega arith)))
-      (advances_lawful 0 0 _ (to_register (omega arith)) (divide_flags_lawful 1 (omega arith))))
-      (advances_lawful x.d q _ (to_register i.register) (divide_flags_lawful 0 (omega arith)))
+      (raises_lawful 0 0 _ _ _ (to_register (omega arith)) (divide_flags_lawful true))
+      (advances_lawful 0 0 _ (to_register (omega arith)) (divide_flags_lawful true)))
+      (advances_lawful x.d q _ (to_register i.register) (divide_flags_lawful false))
 
   pub accumulating_lawful : (place v : ℕ) → Register place → (m : Accumulator) → Lawful x.picsr (accumulating x place v m)
   accumulating_lawful place v h m = completed_lawful (to_register h) i.sr_lawful onward_lawful i.link_lawful is_running_lem
@@ -212,7 +212,7 @@ module _ (x : Inputs) (i : LawfulInputs x) where
   store_conditional_lawful limit len =
       reaches_law (Lawful x.picsr) x 4 limit len
       (λ g.
-      completed_lawful (to_register (omega arith)) (allowed_flag x.sr i.sr_lawful (bit (linked x)) (bit_lt (linked x))) onward_lawful
+      completed_lawful (to_register (omega arith)) (allowed_flag x.sr i.sr_lawful (linked x)) onward_lawful
       no_link_lawful is_running_lem)
       faults_lawful
 

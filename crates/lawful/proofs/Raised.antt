@@ -48,7 +48,7 @@ apart_lines board mem x =
       of_illegal = apart tt;
       of_trap = apart tt;
       of_syscall = if_both Apart (in_slot x) (apart tt) (apart tt);
-      of_result = λ f _. if_both Apart (is_set OVE x.sr && eqb f.overflow 1) (apart tt) (apart tt);
+      of_result = λ f. if_both Apart (is_set OVE x.sr && f.overflow) (apart tt) (apart tt);
       of_divides = λ q.
           if_both Apart (eqb x.b 0) (if_both Apart (is_set OVE x.sr) (apart tt) (apart tt)) (apart tt);
       of_accumulates = λ m. apart tt;

@@ -121,7 +121,7 @@ module _ (board : Board) (len : ℕ) (x : Inputs) where
     pub result_sound : (f : Flagged) → Sound board len (result_or_raises x f)
     unfolding result_or_raises
     result_sound f =
-        if_both (Sound board len) (is_set OVE x.sr && eqb f.overflow 1) (raises_sound x.d f.value _ _ _ (omega arith))
+        if_both (Sound board len) (is_set OVE x.sr && f.overflow) (raises_sound x.d f.value _ _ _ (omega arith))
         (advances_sound x.d f.value _ (omega arith))
 
     pub divides_sound : (q : ℕ) → Sound board len (divides x q)
@@ -152,7 +152,7 @@ sound_lines board mem x d =
       of_illegal = faults_sound board len x _ _;
       of_trap = faults_sound board len x _ _;
       of_syscall = syscall_sound board len x;
-      of_result = λ f _. result_sound board len x d f;
+      of_result = λ f. result_sound board len x d f;
       of_divides = divides_sound board len x d;
       of_accumulates = accumulating_sound board len x 0 0 (omega arith);
       of_reads_accumulator = accumulating_sound board len x x.d _ (omega arith) _;

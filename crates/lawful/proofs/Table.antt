@@ -7,15 +7,11 @@ use native.Mathlib.Omega.{arith}
 use lib.Dec.{eqb, ltb}
 use lib.ListN.{length}
 use borrow.Author.Tests.{eqb-true}
-use Rattle.bits.specs.Word.{bit_at}
 use Rattle.bits.proofs.Cases.{if_law, if_both}
 use Rattle.isa.specs.Register.{Register}
 use Rattle.isa.specs.Groups.{first_nop_movhi, first_control, first_load, first_add_immediate, first_immediate, first_compare_immediate, first_store, first_arithmetic, first_logic, first_compare, first_cache, first_product, IsBranch}
-use Rattle.arith.specs.Status.{CY}
 use Rattle.arith.specs.declared.Flagged.{Flagged}
-use Rattle.arith.proofs.Sums.{Ranged, sum_ranged, difference_ranged}
 use Rattle.product.specs.declared.Accumulator.{Accumulator}
-use Rattle.product.proofs.Products.{product_ranged, product_unsigned_ranged}
 use Rattle.memory.specs.Memory.{Width, byte_wide, half_wide, word_wide}
 use Rattle.effect.specs.declared.types.Inputs.{Inputs}
 use Rattle.effect.specs.Board.{Board}
@@ -32,7 +28,7 @@ pub record Lines (P : Effect → Type 0) (J : Type 0) (board : Board) (mem : Lis
   pub of_illegal : P (illegal x)
   pub of_trap : P (trap x)
   pub of_syscall : P (syscall x)
-  pub of_result : (f : Flagged) → Ranged f → P (result_or_raises x f)
+  pub of_result : (f : Flagged) → P (result_or_raises x f)
   pub of_divides : (q : ℕ) → P (divides x q)
   pub of_accumulates : (m : Accumulator) → P (accumulates x m)
   pub of_reads_accumulator : P (reads_accumulator x)
@@ -89,8 +85,8 @@ module _ (P : Effect → Type 0) (J : Type 0) (board : Board) (mem : List ℕ) (
   add_immediates_have : (k : ℕ) → P (add_immediates k x)
   unfolding add_immediates
   add_immediates_have k =
-      if_both P (eqb k 23) (l.of_result _ (sum_ranged x.a x.immediate 0)) (
-      if_both P (eqb k 24) (l.of_result _ (sum_ranged x.a x.immediate (bit_at CY x.sr))) l.of_illegal)
+      if_both P (eqb k 23) (l.of_result _) (
+      if_both P (eqb k 24) (l.of_result _) l.of_illegal)
 
   immediates_have : (k : ℕ) → P (immediates board.cores k x)
   unfolding immediates
@@ -116,9 +112,9 @@ module _ (P : Effect → Type 0) (J : Type 0) (board : Board) (mem : List ℕ) (
   arithmetic_have : (k : ℕ) → P (arithmetic k x)
   unfolding arithmetic
   arithmetic_have k =
-      if_both P (eqb k 48) (l.of_result _ (sum_ranged x.a x.b 0)) (
-      if_both P (eqb k 49) (l.of_result _ (sum_ranged x.a x.b (bit_at CY x.sr))) (
-      if_both P (eqb k 50) (l.of_result _ (difference_ranged x.a x.b)) l.of_illegal))
+      if_both P (eqb k 48) (l.of_result _) (
+      if_both P (eqb k 49) (l.of_result _) (
+      if_both P (eqb k 50) (l.of_result _) l.of_illegal))
 
   logic_have : (k : ℕ) → P (logic k x)
   unfolding logic
@@ -150,9 +146,9 @@ module _ (P : Effect → Type 0) (J : Type 0) (board : Board) (mem : List ℕ) (
   products_have : (k : ℕ) → P (products k x)
   unfolding products
   products_have k =
-      if_both P (eqb k 80) (l.of_result _ (product_ranged x.a x.b)) (
-      if_both P (eqb k 81) (l.of_result _ (product_ranged x.a x.immediate)) (
-      if_both P (eqb k 82) (l.of_result _ (product_unsigned_ranged x.a x.b)) (
+      if_both P (eqb k 80) (l.of_result _) (
+      if_both P (eqb k 81) (l.of_result _) (
+      if_both P (eqb k 82) (l.of_result _) (
       if_both P (eqb k 83) (l.of_divides _) (
       if_both P (eqb k 84) (l.of_divides _) (
       if_both P (eqb k 85) (l.of_accumulates _) (

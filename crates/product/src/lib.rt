@@ -1,6 +1,6 @@
 #![tactic(auto)]
 // Products, quotients, and the accumulator that products are added to.
-ghost use Rattle.std.specs.Prelude.{◌≡◌, ◌<◌, pos};
+ghost use Rattle.std.specs.Prelude.{◌≡◌, ◌<◌, SomeIff, pos};
 ghost use Rattle.bits.specs.Word.{modulo};
 ghost use Rattle.product.specs.Product.{product, product_unsigned, quotient, quotient_unsigned};
 ghost use Rattle.product.specs.Accumulate.{number, holding, term, added, subtracted};
@@ -56,21 +56,21 @@ pub fn mul(a: u32, b: u32) -> Flagged
     }
 }
 
-// The signed quotient, truncated toward 0. 80000000 by ffffffff is 2^31, whose word is 80000000.
-pub fn div(a: u32, b: u32) -> u32
-    requires { 0 < b }
-    ensures { result ≡ quotient a b }
+// The signed quotient, truncated toward 0; none by 0. 80000000 by ffffffff is 2^31, whose word is 80000000.
+pub fn div(a: u32, b: u32) -> Option<u32>
+    ensures { SomeIff result (0 < b) (quotient a b) }
 {
-    a.cast_signed()
-        .wrapping_div(b.cast_signed())
-        .cast_unsigned()
+    if b == 0 {
+        return None;
+    }
+    let q = a.cast_signed().wrapping_div(b.cast_signed());
+    Some(q.cast_unsigned())
 }
 
-pub fn div_unsigned(a: u32, b: u32) -> u32
-    requires { 0 < b }
-    ensures { result ≡ quotient_unsigned a b }
+pub fn div_unsigned(a: u32, b: u32) -> Option<u32>
+    ensures { SomeIff result (0 < b) (quotient_unsigned a b) }
 {
-    a / b
+    a.checked_div(b)
 }
 
 // The low 32 bits of a product, sign-extended to 64.
@@ -80,16 +80,18 @@ fn term(a: u32, b: u32) -> u64
     i64::from(a.wrapping_mul(b).cast_signed()).cast_unsigned()
 }
 
-// Such a term is added to the accumulator, modulo 2^64.
-pub fn add_product(m: Accumulator, a: u32, b: u32) -> Accumulator
-    ensures { result ≡ added m a b }
-{
-    u64::from(m).wrapping_add(term(a, b)).into()
-}
+impl Accumulator {
+    // Such a term is added, modulo 2^64.
+    pub fn add_product(self, a: u32, b: u32) -> Accumulator
+        ensures { result ≡ added self a b }
+    {
+        u64::from(self).wrapping_add(term(a, b)).into()
+    }
 
-// Likewise subtracted.
-pub fn subtract_product(m: Accumulator, a: u32, b: u32) -> Accumulator
-    ensures { result ≡ subtracted m a b }
-{
-    u64::from(m).wrapping_sub(term(a, b)).into()
+    // Likewise subtracted.
+    pub fn subtract_product(self, a: u32, b: u32) -> Accumulator
+        ensures { result ≡ subtracted self a b }
+    {
+        u64::from(self).wrapping_sub(term(a, b)).into()
+    }
 }

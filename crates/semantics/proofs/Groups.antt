@@ -1,37 +1,18 @@
--- The group of a kind: what a match on the group leaves, and where the group stands in the meaning. Assumes nothing.
+-- The group of a kind: where it stands in the meaning. Assumes nothing.
 use mathlib.Core.Bool.{Bool, true, ◌&&◌}
 use mathlib.Core.List.{List, [], ◌∷◌}
 use mathlib.Core.Path.{◌≡◌, refl}
-use Prim.Native.Nat.{ℕ, zero, suc, ◌+◌, ◌-◌, ◌≤◌, ◌<◌}
+use Prim.Native.Nat.{ℕ, zero, suc, ◌-◌, ◌≤◌, ◌<◌}
 use native.Mathlib.Omega.{arith}
 use lib.Dec.{T, leb, leb→le}
 use lib.ListN.{length}
 use borrow.Author.Tests.{lt-ltb, le-ltb}
-use Rattle.bits.proofs.Tests.{NoneOf, and_left, and_right}
-use Rattle.isa.specs.Groups.{first_branch, first_nop_movhi, first_control, first_load, first_add_immediate, first_immediate, first_compare_immediate, first_store, first_arithmetic, first_logic, first_compare, first_cache, first_product, IsNopMovhi, IsControl, IsLoad, IsAddImmediate, IsImmediate, IsCompareImmediate, IsStore, IsArithmetic, IsLogic, IsCompare, IsCache}
+use Rattle.bits.proofs.Tests.{and_left, and_right}
+use Rattle.isa.specs.Groups.{first_nop_movhi, first_control, first_load, first_add_immediate, first_immediate, first_compare_immediate, first_store, first_arithmetic, first_logic, first_compare, first_cache, first_product, IsNopMovhi, IsControl, IsLoad, IsAddImmediate, IsImmediate, IsCompareImmediate, IsStore, IsArithmetic, IsLogic, IsCompare, IsCache}
 use Rattle.effect.specs.declared.types.Inputs.{Inputs}
 use Rattle.effect.specs.Board.{Board}
 use Rattle.effect.specs.declared.types.Effect.{Effect}
-use Rattle.action.specs.Operations.{illegal}
 use Rattle.semantics.specs.Meaning.{branches, nop_movhi, control, loads, add_immediates, immediates, stores, arithmetic, logic, compares, caches, products, groups, grouped, meaning}
-
--- ---- the keys of a match on a group: n numbers from low up, in the shape that the match leaves
-
-abbrev pub keys : ℕ → ℕ → List ℕ
-keys low zero = []
-keys low (suc n) = (low + n) ∷ keys low n
-
--- no kind of the group is left for the default arm
-pub all_keys : (low n k : ℕ) → low ≤ k → k < low + n → NoneOf k (keys low n) → ⊥
-all_keys low zero k l h r = omega arith
-all_keys low (suc n) k l h r = let d : k ≡ low + n → ⊥ = r.1 in all_keys low n k l (omega arith) r.0
-
--- below the branches are kind 1 and no kind
-pub no_branch : (k : ℕ) (x : Inputs) → k < first_nop_movhi → NoneOf k (keys first_branch 4) → illegal x ≡ branches k x
-unfolding branches
-no_branch zero x h r = refl
-no_branch (suc zero) x h r = refl
-no_branch (suc (suc k)) x h r = absurd (all_keys first_branch 4 (suc (suc k)) (omega arith) h r)
 
 -- ---- the groups in order
 

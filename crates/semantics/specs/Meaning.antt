@@ -2,7 +2,7 @@
 -- instruction reads.
 use Rattle.std.specs.Prelude.{true, false, not, List, [], ◌∷◌, ℕ, ◌-◌, eqb, ltb, length, if◌then◌else◌}
 use Rattle.std.specs.Int.Bits.{bit_and, bit_or, bit_xor}
-use Rattle.bits.specs.Word.{bit_at, extend}
+use Rattle.bits.specs.Word.{extend}
 use Rattle.isa.specs.Entry.{kind_of_entry, fields_of}
 use Rattle.isa.specs.Groups.{first_nop_movhi, first_control, first_load, first_add_immediate, first_immediate, first_compare_immediate, first_store, first_arithmetic, first_logic, first_compare, first_cache, first_product}
 use Rattle.arith.specs.Bit.{is_set}
@@ -63,8 +63,8 @@ loads mem k x =
 -- sums with an immediate
 unfoldable pub add_immediates : ℕ → Inputs → Effect
 add_immediates k x =
-    if eqb k 23 then result_or_raises x (sum x.a x.immediate 0) else  -- l.addi
-    if eqb k 24 then result_or_raises x (sum x.a x.immediate (bit_at CY x.sr)) else  -- l.addic
+    if eqb k 23 then result_or_raises x (sum x.a x.immediate false) else  -- l.addi
+    if eqb k 24 then result_or_raises x (sum x.a x.immediate (is_set CY x.sr)) else  -- l.addic
     illegal x
 
 -- "SPR number (decimal here): rA or K, bitwise."
@@ -97,8 +97,8 @@ stores limit len k x =
 -- sums and differences of registers
 unfoldable pub arithmetic : ℕ → Inputs → Effect
 arithmetic k x =
-    if eqb k 48 then result_or_raises x (sum x.a x.b 0) else  -- l.add
-    if eqb k 49 then result_or_raises x (sum x.a x.b (bit_at CY x.sr)) else  -- l.addc
+    if eqb k 48 then result_or_raises x (sum x.a x.b false) else  -- l.add
+    if eqb k 49 then result_or_raises x (sum x.a x.b (is_set CY x.sr)) else  -- l.addc
     if eqb k 50 then result_or_raises x (difference x.a x.b) else  -- l.sub
     illegal x
 

@@ -5,11 +5,12 @@ ghost use Rattle.isa.specs.Groups.{first_nop_movhi, first_compare_immediate, fir
 ghost use Rattle.effect.specs.Inner.{effect_by, goes_on};
 ghost use Rattle.semantics.specs.Meaning.{branches, nop_movhi, control as controlOf, loads, add_immediates, immediates, stores, arithmetic as arithmeticOf, logic as logic_of, compares, caches, products};
 
-use action::{accesses, accumulator, completed, divisions, jumps, raised, results, special};
+use action::{accesses, completed, divisions, jumps, raised, results, special};
 use effect::types::{Action, Inputs, Written};
 use isa::groups;
 
 // Jumps and branches by an immediate; below them kind 1, which is illegal, and no kind.
+#[tactic(auto, unfolding(crate::specs::Meaning::branches))]
 pub fn branch(kind: u8, x: Inputs) -> Action
     requires { kind < first_nop_movhi }
     ensures { effect_by x result ≡ branches kind x }
@@ -24,6 +25,7 @@ pub fn branch(kind: u8, x: Inputs) -> Action
 }
 
 // The most frequent of all, l.nop, and l.movhi.
+#[tactic(auto, unfolding(crate::specs::Meaning::nop_movhi, effect::specs::Inner::effect_by))]
 pub fn nop_movhi(kind: u8, x: Inputs) -> Action
     requires { IsNopMovhi kind }
     ensures { effect_by x result ≡ nop_movhi kind x }
@@ -35,6 +37,7 @@ pub fn nop_movhi(kind: u8, x: Inputs) -> Action
 }
 
 // Exceptions, syncs, the return from an exception, and jumps to a register.
+#[tactic(auto, unfolding(crate::specs::Meaning::control, effect::specs::Inner::effect_by))]
 pub fn control(kind: u8, x: Inputs) -> Action
     requires { IsControl kind }
     ensures { effect_by x result ≡ controlOf kind x }
@@ -53,6 +56,7 @@ pub fn control(kind: u8, x: Inputs) -> Action
 }
 
 // Loads.
+#[tactic(auto, unfolding(crate::specs::Meaning::loads))]
 pub fn load(mem: &[u8], kind: u8, x: Inputs) -> Action
     requires { IsLoad kind }
     ensures { effect_by x result ≡ loads mem.now kind x }
@@ -70,18 +74,20 @@ pub fn load(mem: &[u8], kind: u8, x: Inputs) -> Action
 }
 
 // Sums with an immediate, which may raise range.
+#[tactic(auto, unfolding(crate::specs::Meaning::add_immediates))]
 pub fn add_immediate(kind: u8, x: Inputs) -> Action
     requires { IsAddImmediate kind }
     ensures { effect_by x result ≡ add_immediates kind x }
 {
     match kind {
-        23 => results::result_or_raise(x, arith::add(x.a, x.immediate, 0)), // l.addi
+        23 => results::result_or_raise(x, arith::add(x.a, x.immediate, false)), // l.addi
         24 => results::result_or_raise(x, arith::add(x.a, x.immediate, arith::carry(x.sr))), // l.addic
         _ => raised::illegal(x), // no kind comes here
     }
 }
 
 // Logic and shifts with an immediate, and l.mfspr.
+#[tactic(auto, unfolding(crate::specs::Meaning::immediates))]
 pub fn immediate(cores: u32, kind: u8, x: Inputs) -> Written
     requires { IsImmediate kind }
     ensures { goes_on x result ≡ immediates cores kind x }
@@ -100,6 +106,7 @@ pub fn immediate(cores: u32, kind: u8, x: Inputs) -> Written
 }
 
 // The stores and l.mtspr.
+#[tactic(auto, unfolding(crate::specs::Meaning::stores, effect::specs::Inner::effect_by))]
 pub fn store(limit: u32, len: usize, kind: u8, x: Inputs) -> Action
     requires { IsStore kind }
     ensures { effect_by x result ≡ stores limit len kind x }
@@ -115,12 +122,13 @@ pub fn store(limit: u32, len: usize, kind: u8, x: Inputs) -> Action
 }
 
 // Sums and differences of registers, which may raise range.
+#[tactic(auto, unfolding(crate::specs::Meaning::arithmetic))]
 pub fn arithmetic(kind: u8, x: Inputs) -> Action
     requires { IsArithmetic kind }
     ensures { effect_by x result ≡ arithmeticOf kind x }
 {
     match kind {
-        48 => results::result_or_raise(x, arith::add(x.a, x.b, 0)), // l.add
+        48 => results::result_or_raise(x, arith::add(x.a, x.b, false)), // l.add
         49 => results::result_or_raise(x, arith::add(x.a, x.b, arith::carry(x.sr))), // l.addc
         50 => results::result_or_raise(x, arith::sub(x.a, x.b)), // l.sub
         _ => raised::illegal(x), // no kind comes here
@@ -128,6 +136,7 @@ pub fn arithmetic(kind: u8, x: Inputs) -> Action
 }
 
 // Logic, shifts and extensions of registers.
+#[tactic(auto, unfolding(crate::specs::Meaning::logic))]
 pub fn logic(kind: u8, x: Inputs) -> Written
     requires { IsLogic kind }
     ensures { goes_on x result ≡ logic_of kind x }
@@ -154,6 +163,7 @@ pub fn logic(kind: u8, x: Inputs) -> Written
 }
 
 // Set flag, by the place in the set-flag order; b is the second operand.
+#[tactic(auto, unfolding(crate::specs::Meaning::compares))]
 fn compare_at(n: u8, x: Inputs, b: u32) -> Written
     ensures { goes_on x result ≡ compares n x b }
 {
@@ -177,6 +187,7 @@ pub fn compare(kind: u8, x: Inputs) -> Written
 }
 
 // The cache instructions, which only test their byte.
+#[tactic(auto, unfolding(crate::specs::Meaning::caches))]
 pub fn cache(len: usize, kind: u8, x: Inputs) -> Action
     requires { IsCache kind }
     ensures { effect_by x result ≡ caches len kind x }
@@ -190,6 +201,7 @@ pub fn cache(len: usize, kind: u8, x: Inputs) -> Action
 }
 
 // Products, quotients and the accumulator; above them no kind.
+#[tactic(auto, unfolding(crate::specs::Meaning::products, effect::specs::Inner::effect_by))]
 pub fn product(kind: u8, x: Inputs) -> Action
     ensures { effect_by x result ≡ products kind x }
 {
@@ -197,11 +209,11 @@ pub fn product(kind: u8, x: Inputs) -> Action
         80 => results::result_or_raise(x, product::mul(x.a, x.b)), // l.mul
         81 => results::result_or_raise(x, product::mul(x.a, x.immediate)), // l.muli
         82 => results::result_or_raise(x, product::mul_unsigned(x.a, x.b)), // l.mulu
-        83 => divisions::divide(x), // l.div
-        84 => divisions::divide_unsigned(x), // l.divu
-        85 => accumulator::add(x, x.immediate), // l.maci
-        86 => accumulator::add(x, x.b), // l.mac
-        87 => accumulator::subtract(x, x.b), // l.msb
+        83 => divisions::divide(x, product::div(x.a, x.b)), // l.div
+        84 => divisions::divide(x, product::div_unsigned(x.a, x.b)), // l.divu
+        85 => Action::Accumulate(x.accumulator.add_product(x.a, x.immediate)), // l.maci
+        86 => Action::Accumulate(x.accumulator.add_product(x.a, x.b)), // l.mac
+        87 => Action::Accumulate(x.accumulator.subtract_product(x.a, x.b)), // l.msb
         88 => Action::ReadAccumulator, // l.macrc
         _ => raised::illegal(x),
     }

@@ -1,7 +1,7 @@
 use Rattle.std.proofs.Common.{pos, ◌-ℤ◌, refl, ap, ◌∙◌}
 use Rattle.product.specs.Accumulate.{holding, term, subtracted}
 use Rattle.product.proofs.Accumulated.{held_difference}
-use Rattle.product.proofs.subtract_product.Goals as goal
+use Rattle.product.proofs.Accumulator.subtract_product.Goals as goal
 
 pub returns : goal.returns
 unfolding subtracted

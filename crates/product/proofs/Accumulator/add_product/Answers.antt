@@ -1,7 +1,7 @@
 use Rattle.std.proofs.Common.{pos, ◌+ℤ◌, refl, ap, ◌∙◌}
 use Rattle.product.specs.Accumulate.{holding, term, added}
 use Rattle.product.proofs.Accumulated.{held_sum}
-use Rattle.product.proofs.add_product.Goals as goal
+use Rattle.product.proofs.Accumulator.add_product.Goals as goal
 
 pub returns : goal.returns
 unfolding added

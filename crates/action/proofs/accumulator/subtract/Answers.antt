@@ -1,6 +1,0 @@
-use Rattle.effect.specs.Inner.{effect_by}
-use Rattle.action.proofs.accumulator.subtract.Goals as goal
-
-pub returns : goal.returns
-unfolding effect_by
-returns c = simp c.subtract_product.ensures

@@ -1,6 +1,0 @@
-use mathlib.Core.Path.{ap}
-use Rattle.effect.specs.Inner.{goes_on}
-use Rattle.action.proofs.completed.nothing.Goals as goal
-
-pub returns : goal.returns
-returns c = ap (goes_on c.args.x) c.written.ensures
