@@ -11,6 +11,7 @@ ghost use Rattle.commit.specs.Inner.{tells, OwnState, Storable, Fits, Performed,
 use crate::inputs::inputs_at;
 use effect::effects;
 use effect::types::{Action, Effect, Outcome, Store, Written};
+use memory::Width;
 
 pub mod inputs;
 pub mod links;
@@ -30,7 +31,7 @@ fn put_store(memory: &mut [u8], s: Store)
     ensures { memory.new ≡ storedOf s.width memory.old s.address s.value }
 {
     if 0 < s.width {
-        memory::store(memory, s.address, s.width, s.value);
+        memory::store(memory, s.address, Width::of(s.width), s.value);
     }
 }
 

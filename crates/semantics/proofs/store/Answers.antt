@@ -1,18 +1,8 @@
-use Rattle.memory.specs.Memory.{byte_wide, half_wide, word_wide}
 use Rattle.effect.specs.Inner.{effect_by}
 use Rattle.isa.specs.Groups.{first_store}
 use Rattle.semantics.specs.Meaning.{stores}
 use Rattle.semantics.proofs.Groups.{all_keys}
 use Rattle.semantics.proofs.store.Goals as goal
-
-pub store-requires : goal.store-requires
-store-requires c = word_wide
-
-pub store-requires-in-46 : goal.store-requires-in-46
-store-requires-in-46 c = byte_wide
-
-pub store-requires-in-47 : goal.store-requires-in-47
-store-requires-in-47 c = half_wide
 
 pub returns-in-43 : goal.returns-in-43
 unfolding stores effect_by
