@@ -10,13 +10,6 @@ use isa::groups;
 use isa::kinds::{Form, Place, Shape};
 use isa::register::{number, present};
 
-// One of two kinds, by whether a field has one value.
-fn kind_by(x: u32, value: u32, kind: u8, otherwise: u8) -> u8
-    ensures { result ≡ (if eqb x value then kind else otherwise) }
-{
-    if x == value { kind } else { otherwise }
-}
-
 // Opcode 08, by bits 25-16.
 fn system_kind(x: u32) -> u8
     requires { x < 1024 }
@@ -49,6 +42,7 @@ fn shift_kind(x: u32) -> u8
 }
 
 // The compares, by bits 25-21: the group's kinds begin at `first`.
+#[tactic(auto, unfolding(isa::specs::Inner::compare_kind))]
 fn compare_kind(first: u8, x: u32) -> u8
     requires { first < kinds }
     ensures { result ≡ compare_kind first x }
@@ -134,8 +128,8 @@ fn kind_of(w: u32) -> u8
         0x01 => 3, // l.jal
         0x03 => 4, // l.bnf
         0x04 => 5, // l.bf
-        0x05 => kind_by(w / 0x100_0000 % 4, 1, 6, 1), // l.nop
-        0x06 => kind_by(w / 0x1_0000 % 2, 0, 7, 88), // l.movhi, macrc
+        0x05 => if w / 0x100_0000 % 4 == 1 { 6 } else { 1 }, // l.nop
+        0x06 => if w / 0x1_0000 % 2 == 0 { 7 } else { 88 }, // l.movhi, macrc
         0x08 => system_kind(w / 0x1_0000 % 1024),
         0x09 => 13, // l.rfe
         0x11 => 14, // l.jr
@@ -173,6 +167,7 @@ fn immediate_bits(place: Place, w: u32) -> u32
 }
 
 // The immediate as execution uses it.
+#[tactic(auto, using(isa::proofs::Immediates::jump_extend), unfolding(isa::specs::InstructionSet::immediate))]
 fn extended(form: Form, n: u32) -> u32
     requires { n < 2 ^ 26 }
     ensures { result ≡ immediate (form_of form) n }
@@ -188,13 +183,11 @@ fn extended(form: Form, n: u32) -> u32
 fn fields(shape: Shape, w: u32) -> Fields
     ensures { (result ≡ fields_in shape w) × Registers result }
 {
-    let place = shape.place;
-    let form = shape.form;
     Fields {
         d: present(shape.d, number(w / 0x20_0000)),
         a: present(shape.a, number(w / 0x1_0000)),
         b: present(shape.b, number(w / 0x800)),
-        immediate: extended(form, immediate_bits(place, w)),
+        immediate: extended(shape.form, immediate_bits(shape.place, w)),
     }
 }
 

@@ -10,20 +10,13 @@ use isa::groups;
 use isa::kinds::{Form, Place, Shape};
 use isa::register::present;
 
-#[derive(Clone, Copy)]
-pub enum Encoded {
-    Word(u32),
-    // No 32-bit word decodes to the entry: refusal 8.
-    Refused,
-}
-
 // The bits of the field that an immediate comes from.
+#[tactic(auto, unfolding(isa::specs::InstructionSet::immediate_bits))]
 fn field_bits(form: Form, n: u32) -> u32
     ensures { result ≡ immediate_bits (form_of form) n }
 {
     match form {
-        Form::Zext => n,
-        Form::Sext => n,
+        Form::Zext | Form::Sext => n,
         Form::Jump => n / 4,
     }
 }
@@ -46,31 +39,27 @@ fn field_word(shape: Shape, f: Fields) -> u32
     requires { Registers f }
     ensures { result ≡ bits_of shape f }
 {
-    let place = shape.place;
-    let form = shape.form;
     (present(shape.d, f.d) as u32) * 0x20_0000
         + (present(shape.a, f.a) as u32) * 0x1_0000
         + (present(shape.b, f.b) as u32) * 0x800
-        + placed(place, field_bits(form, f.immediate))
+        + placed(shape.place, field_bits(shape.form, f.immediate))
 }
 
 // The word, if it decodes to the entry.
-fn checked(e: u64, w: u32) -> Encoded
+fn checked(e: u64, w: u32) -> Option<u32>
     requires { w ≡ candidate e }
     ensures { Encodes e result }
 {
-    if crate::decoder::decode(w) == e {
-        return Encoded::Word(w);
-    }
-    Encoded::Refused
+    (crate::decoder::decode(w) == e).then_some(w)
 }
 
-pub fn encode(e: u64) -> Encoded
+// None, where no 32-bit word decodes to the entry, is refusal 8.
+pub fn encode(e: u64) -> Option<u32>
     ensures { Encodes e result }
 {
     let k = (e / 0x100_0000_0000_0000) as u8;
     if groups::KINDS <= k as usize {
-        return Encoded::Refused;
+        return None;
     }
     let shape = isa::kinds::shape_of(isa::kinds::layout_of(k));
     let fields = field_word(shape, isa::entry::unpack(e));

@@ -11,6 +11,7 @@ ghost use Rattle.commit.specs.Inner.{tells, OwnState, Storable, Fits, Performed,
 use crate::inputs::inputs_at;
 use effect::effects;
 use effect::types::{Action, Effect, Outcome, Store, Written};
+use memory::Width;
 
 pub mod inputs;
 pub mod links;

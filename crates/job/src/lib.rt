@@ -11,6 +11,7 @@ ghost use Rattle.job.specs.Answer.{ReadJob};
 use card::value::Field;
 use card::{Cause, Job, Reading};
 use effect::state;
+use memory::Width;
 
 pub const IMAGE: usize = 16384;
 
@@ -66,7 +67,7 @@ fn fill(card: &[u8], from: usize, n: u32, image: &mut [u8])
     while 0 < more {
         match card::word_at(card, at) {
             Field::Value(w, next) => {
-                memory::store(image, to, 4, w);
+                memory::store(image, to, Width::Word, w);
                 at = next;
                 more -= 1;
                 to += 4;

@@ -8,6 +8,7 @@ ghost use Rattle.semantics.specs.Meaning.{branches, nop_movhi, control as contro
 use action::{accesses, completed, divisions, jumps, raised, results, special};
 use effect::types::{Action, Inputs, Written};
 use isa::groups;
+use memory::Width;
 
 // Jumps and branches by an immediate; below them kind 1, which is illegal, and no kind.
 #[tactic(auto, unfolding(crate::specs::Meaning::branches))]
@@ -63,12 +64,12 @@ pub fn load(mem: &[u8], kind: u8, x: Inputs) -> Action
 {
     match kind {
         16 => accesses::load_linked(x, mem), // l.lwa
-        17 => accesses::load(x, mem, 4, false), // l.lwz
-        18 => accesses::load(x, mem, 4, true), // l.lws
-        19 => accesses::load(x, mem, 1, false), // l.lbz
-        20 => accesses::load(x, mem, 1, true), // l.lbs
-        21 => accesses::load(x, mem, 2, false), // l.lhz
-        22 => accesses::load(x, mem, 2, true), // l.lhs
+        17 => accesses::load(x, mem, Width::Word, false), // l.lwz
+        18 => accesses::load(x, mem, Width::Word, true), // l.lws
+        19 => accesses::load(x, mem, Width::Byte, false), // l.lbz
+        20 => accesses::load(x, mem, Width::Byte, true), // l.lbs
+        21 => accesses::load(x, mem, Width::Half, false), // l.lhz
+        22 => accesses::load(x, mem, Width::Half, true), // l.lhs
         _ => raised::illegal(x), // no kind comes here
     }
 }
@@ -114,9 +115,9 @@ pub fn store(limit: u32, len: usize, kind: u8, x: Inputs) -> Action
     match kind {
         43 => Action::Advance(special::write(x, arith::or(x.a, x.immediate), x.b)), // l.mtspr
         44 => accesses::store_conditional(limit, x, len), // l.swa
-        45 => accesses::store(limit, x, len, 4), // l.sw
-        46 => accesses::store(limit, x, len, 1), // l.sb
-        47 => accesses::store(limit, x, len, 2), // l.sh
+        45 => accesses::store(limit, x, len, Width::Word), // l.sw
+        46 => accesses::store(limit, x, len, Width::Byte), // l.sb
+        47 => accesses::store(limit, x, len, Width::Half), // l.sh
         _ => raised::illegal(x), // no kind comes here
     }
 }

@@ -4,7 +4,6 @@ use native.Mathlib.Omega.{arith}
 use lib.ListN.{length, drop}
 use Rattle.text.specs.Lines.{lines}
 use Rattle.card.specs.Answer.{words_from}
-use Rattle.memory.specs.Memory.{word_wide}
 use Rattle.memory.proofs.Laws.{length_stored}
 use Rattle.job.specs.Job.{filled}
 use Rattle.job.proofs.Laws.{fill_none, fill_step, from_value, from_fault, from_none}
@@ -19,7 +18,7 @@ store-requires c =
     let l = c.loop-more in
     let a = c.args in
     let e = ap length (from_value l.more a.card.now l.at c.word_at.ensures.0 c.loop-more-test.true c.in-Value.is) in
-    (word_wide, omega arith)
+    omega arith
 
 pub overflow_add-to : goal.overflow_add-to
 overflow_add-to c =

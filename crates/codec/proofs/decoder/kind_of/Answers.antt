@@ -4,6 +4,7 @@ use Prim.Native.Nat.{ℕ, ◌-◌, ◌/◌, ◌%◌, ◌^◌}
 use native.Mathlib.Omega.{arith}
 use native.Mathlib.Nat.{div-one}
 use lib.Dec.{eqb}
+use borrow.Author.Tests.{eq-eqb, ne_eqb}
 use Rattle.std.specs.Prelude.{if◌then◌else◌}
 use Rattle.bits.proofs.Tests.{within_but}
 use Rattle.isa.specs.Groups.{first_compare_immediate, first_compare}
@@ -34,13 +35,21 @@ pub returns-in-4 : goal.returns-in-4
 unfolding rows fits first_fit kind_of kind_in
 returns-in-4 c = by_opcode c.args.w 0x04 5 c.in-4.is tt
 
-pub returns-in-5 : goal.returns-in-5
+pub returns-then-w-eq1 : goal.returns-then-w-eq1
 unfolding rows fits first_fit kind_of kind_in
-returns-in-5 c = by_field c.args.w 0x05 24 2 (λ x. if eqb x 1 then 6 else 1) _ c.in-5.is tt tt c.kind_by.ensures
+returns-then-w-eq1 c = by_field c.args.w 0x05 24 2 (λ x. if eqb x 1 then 6 else 1) 6 c.in-5.is tt tt (simp (eq-eqb _ _ c.if-w-eq1.true))
 
-pub returns-in-6 : goal.returns-in-6
+pub returns-else-w-eq1 : goal.returns-else-w-eq1
 unfolding rows fits first_fit kind_of kind_in
-returns-in-6 c = by_field c.args.w 0x06 16 1 (λ x. if eqb x 0 then 7 else 88) _ c.in-6.is tt tt c.kind_by-in-6.ensures
+returns-else-w-eq1 c = by_field c.args.w 0x05 24 2 (λ x. if eqb x 1 then 6 else 1) 1 c.in-5.is tt tt (simp (ne_eqb _ _ c.if-w-eq1.false))
+
+pub returns-then-w-eq0 : goal.returns-then-w-eq0
+unfolding rows fits first_fit kind_of kind_in
+returns-then-w-eq0 c = by_field c.args.w 0x06 16 1 (λ x. if eqb x 0 then 7 else 88) 7 c.in-6.is tt tt (simp (eq-eqb _ _ c.if-w-eq0.true))
+
+pub returns-else-w-eq0 : goal.returns-else-w-eq0
+unfolding rows fits first_fit kind_of kind_in
+returns-else-w-eq0 c = by_field c.args.w 0x06 16 1 (λ x. if eqb x 0 then 7 else 88) 88 c.in-6.is tt tt (simp (ne_eqb _ _ c.if-w-eq0.false))
 
 pub returns-in-8 : goal.returns-in-8
 unfolding rows
