@@ -8,8 +8,7 @@ use Rattle.commit.proofs.advance.Goals as goal
 pub write-requires : goal.write-requires
 unfolding effect_by advances
 write-requires c =
-    let p = c.requires in
-    record { own_state = p.committable.0; place_lt_state_words = (fits_as (ap (action_effect _ _ _) (sym c.in-Advance.is)) p.committable.1).place_lt; vectors_len = p.vectors_len }
+    (fits_as (ap (action_effect _ _ _) (sym c.in-Advance.is)) c.requires).place_lt
 
 pub returns-in-Advance : goal.returns-in-Advance
 returns-in-Advance c = performed_as (ap (action_effect _ _ _) (sym c.in-Advance.is)) c.write.ensures

@@ -3,9 +3,8 @@ use Rattle.commit.proofs.jump.Goals as goal
 
 pub settle-requires : goal.settle-requires
 settle-requires c =
-    let p = c.requires in
     let told = c.in-Jump.is in
-    record { state_words_in_bounds = p.committable.0.0; fits = fits_as (as_action _ _ _ told c.inputs_at.ensures c.jump_effect.ensures) p.committable.1; vectors_len = p.vectors_len }
+    fits_as (as_action _ _ _ told c.inputs_at.ensures c.jump_effect.ensures) c.requires
 
 pub returns-in-Jump : goal.returns-in-Jump
 returns-in-Jump c =

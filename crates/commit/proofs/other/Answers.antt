@@ -12,15 +12,13 @@ use Rattle.commit.proofs.other.Goals as goal
 pub commit_state-outcome-requires : goal.commit_state-outcome-requires
 commit_state-outcome-requires c =
     let a = c.args in
-    let p = c.requires in
     let x = c.inputs_at-x.ensures in
-    record { state_words_in_bounds = p.committable.0.0; place_lt_state_words = placed_as (c.effect_by.ensures ∙ ap (λ (x : Inputs). effect_by x a.action) x) p.committable.1.place_lt; vectors_len = p.vectors_len }
+    placed_as (c.effect_by.ensures ∙ ap (λ (x : Inputs). effect_by x a.action) x) c.requires.place_lt
 
 pub put_store-requires : goal.put_store-requires
 put_store-requires c =
     let a = c.args in
-    let p = c.requires in
-    subst (Storable (length a.memory.now)) (sym (c.store_of.ensures _)) p.committable.1.storable
+    subst (Storable (length a.memory.now)) (sym (c.store_of.ensures _)) c.requires.storable
 
 pub returns : goal.returns
 unfolding memory_after

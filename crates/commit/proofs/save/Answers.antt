@@ -3,9 +3,8 @@ use Rattle.commit.proofs.save.Goals as goal
 
 pub settle-requires : goal.settle-requires
 settle-requires c =
-    let p = c.requires in
     let told = c.in-Save.is in
-    record { state_words_in_bounds = p.committable.0.0; fits = fits_as (as_action _ _ _ told c.inputs_at.ensures c.save_effect.ensures) p.committable.1; vectors_len = p.vectors_len }
+    fits_as (as_action _ _ _ told c.inputs_at.ensures c.save_effect.ensures) c.requires
 
 pub returns-in-Save : goal.returns-in-Save
 returns-in-Save c =

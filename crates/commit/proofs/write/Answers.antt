@@ -10,10 +10,9 @@ pub settle-requires : goal.settle-requires
 unfolding effect_by advances
 settle-requires c =
     let a = c.args in
-    let p = c.requires in
     let told : Advance a.w ≡ Advance a.w = refl in
     let e = as_action _ _ _ told c.inputs_at.ensures c.advance_effect.ensures in
-    record { state_words_in_bounds = p.own_state.0; fits = fits_as e record { place_lt = p.place_lt_state_words; storable = none refl }; vectors_len = p.vectors_len }
+    fits_as e record { place_lt = c.requires; storable = none refl }
 
 pub returns : goal.returns
 returns c =
