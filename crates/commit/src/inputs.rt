@@ -1,8 +1,7 @@
 // What an instruction reads of its core's state.
-ghost use Rattle.std.specs.Prelude.{◌≡◌, ◌+◌, ◌*◌, ◌≤◌, length};
+ghost use Rattle.std.specs.Prelude.{◌≡◌};
 ghost use Rattle.isa.specs.Register.{Register, Registers};
-ghost use Rattle.effect.specs.State.{state_words};
-ghost use Rattle.commit.specs.Commit.{inputs, no_fields};
+ghost use Rattle.commit.specs.Commit.{no_fields};
 ghost use Rattle.commit.specs.Inner.{own_word, own_inputs, entry_inputs};
 
 use effect::state;
@@ -60,12 +59,10 @@ pub fn inputs_at(own: &[u32; state::STATE_WORDS], core: u8, entry: u64) -> Input
 }
 
 // What a core's state says by itself: the inputs of an instruction that has no fields.
-pub fn state_at(states: &[u32], core: u8) -> Inputs
-    requires { core * state_words + state_words ≤ length states.now }
-    ensures { result ≡ inputs states.now core no_fields }
+pub fn state_at(own: &[u32; state::STATE_WORDS], core: u8) -> Inputs
+    ensures { result ≡ own_inputs own.now core no_fields }
 {
-    let base = core as usize * state::STATE_WORDS;
-    inputs_of(states[base..].first_chunk().unwrap(), core, no_fields())
+    inputs_of(own, core, no_fields())
 }
 
 fn no_fields() -> Fields
