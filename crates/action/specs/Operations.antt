@@ -1,5 +1,5 @@
 -- What the operations of instructions do: document 01, "One instruction"; document 02, notes 1, 2, 4 and 5. Each is an effect of what its instruction reads, x : Inputs.
-use Rattle.std.specs.Prelude.{Bool, ◌&&◌, List, ℕ, ◌*◌, ◌%◌, eqb, ltb, length, if◌then◌else◌}
+use Rattle.std.specs.Prelude.{Bool, ◌&&◌, List, Some, None, ℕ, ◌*◌, ◌%◌, eqb, ltb, length, if◌then◌else◌}
 use Rattle.std.proofs.Math.Option.{Option, none, some}
 use Rattle.std.specs.Int.Bits.{bit_and, bit_or}
 use Rattle.bits.specs.Word.{bit, extend}
@@ -12,7 +12,7 @@ use Rattle.arith.specs.declared.Flagged.{Flagged}
 use Rattle.memory.specs.Memory.{loaded, no_limit, access}
 use Rattle.product.specs.declared.Accumulator.{Accumulator}
 use Rattle.effect.specs.State.{epcr_at, eear_at, esr_at, machi_at, maclo_at, picmr_at, picsr_at}
-use Rattle.effect.specs.Effect.{no_store, in_slot, advances, halting, faults, raises_range, jumping, returning, linking, saving, unlinking, accumulating, reading_accumulator}
+use Rattle.effect.specs.Effect.{in_slot, advances, halting, faults, raises_range, jumping, returning, linking, saving, unlinking, accumulating, reading_accumulator}
 use Rattle.effect.specs.declared.types.Inputs.{Inputs}
 use Rattle.effect.specs.declared.types.Store.{Store}
 use Rattle.effect.specs.declared.types.Effect.{Effect}
@@ -144,7 +144,7 @@ abbrev pub linked : Inputs → Bool
 linked x = eqb x.link.held 1 && eqb x.link.address (effective_address x)
 
 unfoldable pub store_conditional : ℕ → Inputs → ℕ → Effect
-store_conditional limit x len = reaches x 4 limit len (unlinking x (bit (linked x)) (if linked x then storing x 4 else no_store))
+store_conditional limit x len = reaches x 4 limit len (unlinking x (bit (linked x)) (if linked x then Some (storing x 4) else None))
 
 -- "p.* tests its one byte and does no more."
 unfoldable pub touch : Inputs → ℕ → Effect

@@ -2,7 +2,7 @@
 ghost use Rattle.std.specs.Prelude.{◌≡◌, if◌then◌else◌};
 ghost use Rattle.bits.specs.Word.{bit};
 ghost use Rattle.memory.specs.Memory.{Width};
-ghost use Rattle.effect.specs.Effect.{unlinking, no_store};
+ghost use Rattle.effect.specs.Effect.{unlinking};
 ghost use Rattle.effect.specs.Inner.{effect_by};
 ghost use Rattle.action.specs.Operations.{effective_address, load as load_of, load_linked, storing as storingOf, store as store_of, linked as linkedOf, store_conditional, touch as touch_of};
 
@@ -80,8 +80,9 @@ fn linked(x: Inputs) -> bool
     }
 }
 
+#[tactic(auto, unfolding(effect::specs::Inner::effect_by))]
 fn conditional(x: Inputs) -> Action
-    ensures { effect_by x result ≡ unlinking x (bit (linkedOf x)) (if linkedOf x then storingOf x 4 else no_store) }
+    ensures { effect_by x result ≡ unlinking x (bit (linkedOf x)) (if linkedOf x then Some (storingOf x 4) else None) }
 {
     if linked(x) {
         return Action::SaveLinked(storing(x, 4));

@@ -1,46 +1,13 @@
 -- What a commit leaves. Assumes nothing.
 use mathlib.Core.List.{List}
-use mathlib.Core.Path.{◌≡◌, refl, sym, ap, subst, ◌∙◌}
-use Prim.Native.Nat.{ℕ, zero, suc, ◌+◌, ◌≤◌, ◌<◌}
-use native.Mathlib.Omega.{arith}
-use denote.Enum.Declared.{tag_of}
-use Rattle.memory.specs.Memory.{Width, stored}
+use mathlib.Core.Path.{◌≡◌, sym, subst}
+use Prim.Native.Nat.{ℕ, ◌<◌}
 use Rattle.effect.specs.State.{state_words}
-use Rattle.effect.specs.Effect.{no_store}
-use Rattle.effect.specs.Inner.{effect_by}
-use Rattle.effect.specs.declared.types.Inputs.{Inputs}
-use Rattle.effect.specs.declared.types.Action.{Action}
+use Rattle.effect.specs.Effect.{no_store, Outcome}
 use Rattle.effect.specs.declared.types.Effect.{Effect}
-use Rattle.effect.specs.declared.types.Store.{Store}
-use Rattle.effect.specs.declared.types.Accumulated.{Accumulated}
-use Rattle.effect.specs.declared.types.Accumulated.TheVariants.{Kept, Became}
-use Rattle.effect.specs.declared.types.Outcome.{Outcome}
-use Rattle.effect.specs.declared.types.Outcome.TheVariants.{Completed, Raised}
-use Rattle.effect.specs.contracts.types.Accumulated.{the_type as accumulations}
-use Rattle.effect.specs.contracts.types.Outcome.{the_type}
 use Rattle.commit.specs.Commit.{memory_after}
-use Rattle.commit.specs.Inner.{tells, entry_inputs, action_effect, Storable, none, some, Fits, Owned, Performed}
+use Rattle.commit.specs.Inner.{tells, Fits, Owned, Performed}
 use Rattle.commit.specs.declared.Done.{Done}
-
--- an arm of a match on the outcome
-pub at_completed : (o : Outcome) → tag_of the_type o ≡ 0 → o ≡ Completed
-at_completed Completed h = refl
-at_completed (Raised x) h = absurd (omega arith)
-
--- and on what becomes of the accumulator
-pub at_kept : (a : Accumulated) → tag_of accumulations a ≡ 0 → a ≡ Kept
-at_kept Kept h = refl
-at_kept (Became m) h = absurd (omega arith)
-
--- a store that stores has its bytes in memory; one that does not stores nothing
-pub can_store : {len : ℕ} {s : Store} → Storable len s → 0 < s.width → Width s.width × (s.address + s.width ≤ len)
-can_store (none z) h = absurd (omega arith)
-can_store (some w i) h = (w, i)
-
-pub not_stored : (n : ℕ) (mem : List ℕ) (at v : ℕ) → n ≤ 0 → mem ≡ stored n mem at v
-unfolding stored
-not_stored zero mem at v h = refl
-not_stored (suc n) mem at v h = absurd (omega arith)
 
 -- the same effect under another name
 module _ {e e' : Effect} (p : e ≡ e') where
@@ -56,19 +23,9 @@ module _ {e e' : Effect} (p : e ≡ e') where
   pub performed_as : {vectors mem own mem' own' : List ℕ} {r : Done} → Performed vectors mem own e mem' own' r → Performed vectors mem own e' mem' own' r
   performed_as {vectors} {mem} {own} {mem'} {own'} {r} h = subst (λ (f : Effect). Performed vectors mem own f mem' own' r) p h
 
--- the core's own state is committed, and memory with it
+-- the core's own state is committed
 module _ {vectors own own' : List ℕ} {e : Effect} {o : Outcome} (h : Owned vectors own e own' o) where
-  pub performed : {mem mem' : List ℕ} → mem' ≡ memory_after mem e → {d : Done} → d ≡ tells o e.store → Performed vectors mem own e mem' own' d
-  performed m {d} q = record { memory = m; left = h.left; done = q ∙ ap (λ (o : Outcome). tells o e.store) h.ended }
-
   -- an effect that stores nothing leaves every memory as it is
   pub kept : e.store ≡ no_store → (mem : List ℕ) → Performed vectors mem own e mem own' (tells o no_store)
-  unfolding memory_after stored
-  kept n mem = performed (sym (ap (λ (s : Store). stored s.width mem s.address s.value) n)) (sym (ap (tells o) n))
-
--- ---- actions
-
--- an effect that the code makes of an action v, on inputs that it read, is that action's
-pub as_action : (own : List ℕ) (core entry : ℕ) {x : Inputs} {e : Effect} {a v : Action} → a ≡ v → x ≡ entry_inputs own core entry → e ≡ effect_by x v
-    → e ≡ action_effect own core entry a
-as_action own core entry {x} {e} {a} {v} told p q = q ∙ ap (λ (x : Inputs). effect_by x v) p ∙ ap (action_effect own core entry) (sym told)
+  unfolding memory_after
+  kept n mem = record { memory = rw n; left = h.left; done = rw (n, h.ended) }

@@ -9,15 +9,13 @@ use lib.Dec.{eqb}
 use lib.ListN.{length, take, drop, get_or, set, length-set, length-drop, take-append-drop}
 use lib.Seq.{length-take-le, get_or-take, get_or-drop, set-append_left}
 use Rattle.bits.proofs.Lists.{set_append_add}
-use Rattle.std.specs.Prelude.{if◌then◌else◌}
+use Rattle.std.specs.Prelude.{Option, Some, None, Ok, Err, if◌then◌else◌}
 use Rattle.isa.specs.Register.{Registers}
 use Rattle.isa.specs.declared.entry.Fields.{Fields}
 use Rattle.effect.specs.State.{state_words, own_words, with_own_words, pc_at, delay_at, target_at, sr_at, epcr_at, eear_at, esr_at, link_at, link_address_at, mode_at, machi_at, maclo_at, picmr_at, picsr_at}
+use Rattle.effect.specs.Effect.{Outcome}
 use Rattle.effect.specs.declared.types.Effect.{Effect}
-use Rattle.effect.specs.declared.types.Accumulated.{Accumulated}
-use Rattle.effect.specs.declared.types.Accumulated.TheVariants.{Kept, Became}
-use Rattle.effect.specs.declared.types.Outcome.{Outcome}
-use Rattle.effect.specs.declared.types.Outcome.TheVariants.{Completed, Raised}
+use Rattle.product.specs.declared.Accumulator.{Accumulator}
 use Rattle.commit.specs.Commit.{word_at, put, inputs, put_value, put_flow, put_status, put_accumulated, put_exception, own_state}
 use Rattle.commit.specs.Inner.{own_inputs}
 
@@ -83,15 +81,15 @@ module _ (s : List ℕ) (core : ℕ) (h : core * state_words + state_words ≤ l
       go true = d
       go false = stands_put e.place e.value l d
 
-  stands_accumulated : (a : Accumulated) {t s' : List ℕ} → Stands t s' → Stands (put_accumulated a t 0) (put_accumulated a s' core)
+  stands_accumulated : (a : Option Accumulator) {t s' : List ℕ} → Stands t s' → Stands (put_accumulated a t 0) (put_accumulated a s' core)
   unfolding put_accumulated
-  stands_accumulated Kept d = d
-  stands_accumulated (Became m) d = stands_put maclo_at m.low (omega arith) (stands_put machi_at m.high (omega arith) d)
+  stands_accumulated None d = d
+  stands_accumulated (Some m) d = stands_put maclo_at m.low (omega arith) (stands_put machi_at m.high (omega arith) d)
 
   stands_exception : (vectors : List ℕ) (o : Outcome) {t s' : List ℕ} → Stands t s' → Stands (put_exception vectors o t 0) (put_exception vectors o s' core)
   unfolding put_exception
-  stands_exception vectors Completed d = d
-  stands_exception vectors (Raised x) d =
+  stands_exception vectors (Ok u) d = d
+  stands_exception vectors (Err x) d =
       stands_put esr_at x.esr (omega arith) (stands_put eear_at x.eear (omega arith) (stands_put epcr_at x.epcr (omega arith) (stands_put pc_at _ (omega arith) d)))
 
   stands_flow : (e : Effect) {t s' : List ℕ} → Stands t s' → Stands (put_flow t 0 e) (put_flow s' core e)

@@ -1,18 +1,16 @@
 -- What an instruction reads of its core's state, and what its effect leaves in memory and in every state: document 01, "What is lent" and "One
 -- instruction"; document 02, notes 2, 4 and 6. The states are one list, state_words for each core.
-use Rattle.std.specs.Prelude.{Bool, ◌&&◌, List, ℕ, zero, suc, ◌+◌, ◌*◌, ◌/◌, eqb, ltb, length, get_or, set, if◌then◌else◌}
+use Rattle.std.specs.Prelude.{Bool, ◌&&◌, List, Option, Some, None, ℕ, zero, suc, ◌+◌, ◌*◌, ◌/◌, eqb, length, get_or, set, Ok, Err, is_some, if◌then◌else◌}
 use Rattle.isa.specs.declared.entry.Fields.{Fields}
 use Rattle.isa.specs.Vectors.{vector}
 use Rattle.isa.specs.declared.vectors.Cause.TheVariants.{Bus}
 use Rattle.memory.specs.Memory.{stored}
 use Rattle.effect.specs.State.{state_words, pc_at, delay_at, target_at, sr_at, epcr_at, eear_at, esr_at, link_at, link_address_at, mode_at, machi_at, maclo_at, picmr_at, picsr_at}
-use Rattle.effect.specs.Effect.{faults}
+use Rattle.effect.specs.Effect.{faults, Outcome}
 use Rattle.effect.specs.declared.types.Inputs.{Inputs}
 use Rattle.effect.specs.declared.types.Effect.{Effect}
-use Rattle.effect.specs.declared.types.Accumulated.{Accumulated}
-use Rattle.effect.specs.declared.types.Accumulated.TheVariants.{Kept, Became}
-use Rattle.effect.specs.declared.types.Outcome.{Outcome}
-use Rattle.effect.specs.declared.types.Outcome.TheVariants.{Completed, Raised}
+use Rattle.effect.specs.declared.types.Store.{Store}
+use Rattle.product.specs.declared.Accumulator.{Accumulator}
 
 -- the word at a place of a core's state, and the states with v there
 abbrev pub word_at : List ℕ → ℕ → ℕ → ℕ
@@ -58,21 +56,21 @@ put_status s core e =
     put (put (put (put s core sr_at e.sr) core link_at e.link.held) core link_address_at e.link.address) core mode_at e.mode
 
 -- MACHI and MACLO, if the instruction accumulates or clears them
-unfoldable pub put_accumulated : Accumulated → List ℕ → ℕ → List ℕ
-put_accumulated Kept s core = s
-put_accumulated (Became m) s core = put (put s core machi_at m.high) core maclo_at m.low
+unfoldable pub put_accumulated : Option Accumulator → List ℕ → ℕ → List ℕ
+put_accumulated None s core = s
+put_accumulated (Some m) s core = put (put s core machi_at m.high) core maclo_at m.low
 
 -- an exception goes to its vector and leaves EPCR, EEAR and ESR too. Document 02, note 6: "whatever list passed loading, the step rules are
 -- read with it"
 unfoldable pub put_exception : List ℕ → Outcome → List ℕ → ℕ → List ℕ
-put_exception vectors Completed s core = s
-put_exception vectors (Raised x) s core =
+put_exception vectors (Ok u) s core = s
+put_exception vectors (Err x) s core =
     put (put (put (put s core pc_at (vector vectors x.cause)) core epcr_at x.epcr) core eear_at x.eear) core esr_at x.esr
 
 -- "An exception adds 1 to raised."
 abbrev pub raised_by : Outcome → ℕ
-raised_by Completed = 0
-raised_by (Raised x) = 1
+raised_by (Ok u) = 0
+raised_by (Err x) = 1
 
 -- the states after a core's effect, before links are cleared
 unfoldable pub own_state : List ℕ → List ℕ → ℕ → Effect → List ℕ
@@ -88,20 +86,28 @@ unfoldable pub clear_links : ℕ → List ℕ → ℕ → List ℕ
 clear_links zero s w = s
 clear_links (suc n) s w = clear_link (clear_links n s w) n w
 
--- an effect stores if its width is not 0; the word that it touches
+-- an effect stores if it has a store; the word that it touches
 abbrev pub writes_memory : Effect → Bool
-writes_memory e = ltb 0 e.store.width
+writes_memory e = is_some e.store
+
+abbrev pub word_of : Option Store → ℕ
+word_of None = 0
+word_of (Some s) = s.address / 4
 
 abbrev pub touched : Effect → ℕ
-touched e = e.store.address / 4
+touched e = word_of e.store
 
 unfoldable pub states_after : List ℕ → List ℕ → ℕ → Effect → List ℕ
 states_after vectors s core e =
     if writes_memory e then clear_links (core_count s) (own_state vectors s core e) (touched e * 4) else
     own_state vectors s core e
 
+abbrev pub stored_by : Option Store → List ℕ → List ℕ
+stored_by None mem = mem
+stored_by (Some s) mem = stored s.width mem s.address s.value
+
 unfoldable pub memory_after : List ℕ → Effect → List ℕ
-memory_after mem e = stored e.store.width mem e.store.address e.store.value
+memory_after mem e = stored_by e.store mem
 
 -- an exception in place of an instruction has no fields
 abbrev pub no_fields : Fields

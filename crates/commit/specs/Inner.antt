@@ -1,21 +1,21 @@
 -- Helper of the code. What the parts of a commit promise one another, and what an instruction tells the run; the papers' commit is Commit.antt.
-use Rattle.std.specs.Prelude.{List, ◌≡◌, ℕ, ◌+◌, ◌<◌, ◌≤◌, ltb, get_or}
+use Rattle.std.specs.Prelude.{List, ◌≡◌, ℕ, ◌+◌, ◌<◌, ◌≤◌, get_or, Option, option_map, IfSome}
 use Rattle.isa.specs.Entry.{fields_of}
 use Rattle.isa.specs.declared.entry.Fields.{Fields}
 use Rattle.memory.specs.Memory.{Width}
 use Rattle.effect.specs.State.{state_words}
 use Rattle.effect.specs.Inner.{effect_by}
+use Rattle.effect.specs.Effect.{Outcome}
 use Rattle.effect.specs.declared.types.Inputs.{Inputs}
 use Rattle.effect.specs.declared.types.Effect.{Effect}
 use Rattle.effect.specs.declared.types.Store.{Store}
-use Rattle.effect.specs.declared.types.Outcome.{Outcome}
 use Rattle.effect.specs.declared.types.Action.{Action}
 use Rattle.commit.specs.Commit.{reads, own_state, memory_after}
 use Rattle.commit.specs.declared.Done.{Done}
 
 -- what the run is told of an outcome and a store
-abbrev pub tells : Outcome → Store → Done
-tells o s = record { outcome = o; stored = ltb 0 s.width; address = s.address }
+abbrev pub tells : Outcome → Option Store → Done
+tells o s = record { outcome = o; stored = option_map (λ s. s.address) s }
 
 abbrev pub done_by : Effect → Done
 done_by e = tells e.outcome e.store
@@ -48,10 +48,9 @@ pub record Performed (vectors mem own : List ℕ) (e : Effect) (mem' own' : List
 
 -- ---- what can be committed
 
--- the bytes of a store are in a memory of len bytes, if it has any
-pub data Storable (len : ℕ) (s : Store) : Type 0 where
-  none : s.width ≡ 0 → Storable len s
-  some : Width s.width → s.address + s.width ≤ len → Storable len s
+-- the bytes of a store, if there is one, are in a memory of len bytes
+abbrev pub Storable : ℕ → Option Store → Type 0
+Storable len s = IfSome s (λ s. Width s.width × (s.address + s.width ≤ len))
 
 -- so are an effect's, and it writes to a word of its core's state
 pub record Fits (len : ℕ) (e : Effect) : Type 0 where

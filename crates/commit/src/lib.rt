@@ -1,10 +1,10 @@
 #![tactic(auto)]
 // Committing what an instruction does, in place: its core's own state, memory, and every core's link.
 ghost use Rattle.std.specs.Prelude.{◌≡◌, ◌<◌, length};
-ghost use Rattle.memory.specs.Memory.{stored as storedOf};
 ghost use Rattle.effect.specs.State.{state_words};
 ghost use Rattle.effect.specs.Inner.{effect_by};
 ghost use Rattle.effect.specs.declared.types.Inputs.{Inputs};
+ghost use Rattle.commit.specs.Commit.{stored_by};
 ghost use Rattle.commit.specs.Inner.{tells, action_effect, Storable, Fits, Performed, Acted, Commits};
 
 use crate::inputs::inputs_at;
@@ -17,32 +17,30 @@ pub mod inputs;
 pub mod links;
 pub mod own_state;
 
-// What an instruction tells the run: how it ends, and whether and where it stored.
+// What an instruction tells the run: how it ends, and at which address it stored, if it did.
 #[derive(Clone, Copy)]
 pub struct Done {
     pub outcome: Outcome,
-    pub stored: bool,
-    pub address: u32,
+    pub stored: Option<u32>,
 }
 
 // The bytes that an instruction stores.
-fn put_store(memory: &mut [u8], s: Store)
+fn put_store(memory: &mut [u8], s: Option<Store>)
     requires { Storable (length memory.old) s }
-    ensures { memory.new ≡ storedOf s.width memory.old s.address s.value }
+    ensures { memory.new ≡ stored_by s memory.old }
 {
-    if 0 < s.width {
+    if let Some(s) = s {
         memory::store(memory, s.address, s.width, s.value);
     }
 }
 
 // What an outcome and a store tell the run.
-fn tell(outcome: Outcome, s: Store) -> Done
+fn tell(outcome: Outcome, s: Option<Store>) -> Done
     ensures { result ≡ tells outcome s }
 {
     Done {
         outcome,
-        stored: 0 < s.width,
-        address: s.address,
+        stored: s.map(|s| s.address),
     }
 }
 
@@ -54,7 +52,7 @@ fn done_by(outcome: Outcome, action: Action) -> Done
 }
 
 // An effect, and what it tells the run.
-#[tactic(auto, using(crate::proofs::Commits::performed), unfolding(crate::specs::Commit::memory_after))]
+#[tactic(auto, unfolding(crate::specs::Commit::memory_after))]
 fn settle(vectors: &[u32; COUNT], memory: &mut [u8], own: &mut [u32; STATE_WORDS], e: Effect) -> Done
     requires { Fits (length memory.old) e }
     ensures { Performed vectors.now memory.old own.old e memory.new own.new result }
@@ -66,6 +64,7 @@ fn settle(vectors: &[u32; COUNT], memory: &mut [u8], own: &mut [u32; STATE_WORDS
 }
 
 // Any action, and how it ends. It stands by itself, so that the frequent ones do not pay for the others.
+#[tactic(auto, unfolding(crate::specs::Commit::memory_after))]
 fn other(
     vectors: &[u32; COUNT],
     memory: &mut [u8],
@@ -84,6 +83,7 @@ fn other(
 }
 
 // What is written by an instruction that goes on. Each of these reads its inputs itself, so that nothing is read that it does not use.
+#[tactic(auto, unfolding(effect::specs::Inner::effect_by, effect::specs::Effect::advances))]
 pub fn write(
     vectors: &[u32; COUNT],
     memory: &mut [u8],
@@ -104,6 +104,7 @@ pub fn write(
 }
 
 // An action that is likely to go on.
+#[tactic(auto, unfolding(effect::specs::Inner::effect_by, effect::specs::Effect::advances))]
 pub fn advance(
     vectors: &[u32; COUNT],
     memory: &mut [u8],

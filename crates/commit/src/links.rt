@@ -6,27 +6,24 @@ ghost use Rattle.commit.specs.Commit.{clear_link, clear_links, core_count};
 use effect::state;
 
 // One core's link, if it is to the word at w.
+#[tactic(auto, unfolding(crate::specs::Commit::clear_link))]
 fn clear_link(states: &mut [u32], core: usize, w: u32)
     requires { core * state_words + state_words ≤ length states.old }
     ensures { states.new ≡ clear_link states.old core w }
 {
     let base = core * state::STATE_WORDS;
-    if states[base + state::LINK] == 1 {
-        if states[base + state::LINK_ADDRESS] == w {
-            states[base + state::LINK] = 0;
-            states[base + state::LINK_ADDRESS] = 0;
-        }
+    if states[base + state::LINK] == 1 && states[base + state::LINK_ADDRESS] == w {
+        states[base + state::LINK] = 0;
+        states[base + state::LINK_ADDRESS] = 0;
     }
 }
 
 // Every core's link to the word at w.
+#[tactic(auto, unfolding(crate::specs::Commit::clear_links))]
 pub fn clear_links(states: &mut [u32], w: u32)
     ensures { states.new ≡ clear_links (core_count states.old) states.old w }
 {
-    let n = states.len() / state::STATE_WORDS;
-    let mut i = 0;
-    while i < n {
-        clear_link(states, i, w);
-        i += 1;
+    for core in 0..states.len() / state::STATE_WORDS {
+        clear_link(states, core, w);
     }
 }

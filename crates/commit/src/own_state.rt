@@ -5,11 +5,12 @@ ghost use Rattle.commit.specs.Commit.{put_value, put_flow, put_status, put_accum
 ghost use Rattle.commit.specs.Inner.{Owned};
 
 use effect::state;
-use effect::types::{Accumulated, Effect, Exception, Outcome};
+use effect::types::{Effect, Exception, Outcome};
 use isa::vectors;
 use product::Accumulator;
 
 // The register, or special-purpose register, that an effect writes; r0 is dropped.
+#[tactic(auto, unfolding(crate::specs::Commit::put_value))]
 fn put_value(own: &mut [u32; state::STATE_WORDS], e: Effect)
     requires { e.place < state_words }
     ensures { own.new ≡ put_value own.old 0 e }
@@ -40,26 +41,26 @@ fn put_status(own: &mut [u32; state::STATE_WORDS], e: Effect)
 
 #[tactic(auto, unfolding(crate::specs::Commit::put_accumulated))]
 fn put_accumulator(own: &mut [u32; state::STATE_WORDS], m: Accumulator)
-    ensures { own.new ≡ put_accumulated (Accumulated.Became m) own.old 0 }
+    ensures { own.new ≡ put_accumulated (Some m) own.old 0 }
 {
     own[state::MACHI] = m.high;
     own[state::MACLO] = m.low;
 }
 
 // MACHI and MACLO, if they are not kept.
-fn put_accumulated(own: &mut [u32; state::STATE_WORDS], accumulated: Accumulated)
+#[tactic(auto, unfolding(crate::specs::Commit::put_accumulated))]
+fn put_accumulated(own: &mut [u32; state::STATE_WORDS], accumulated: Option<Accumulator>)
     ensures { own.new ≡ put_accumulated accumulated own.old 0 }
 {
-    match accumulated {
-        Accumulated::Kept => {}
-        Accumulated::Became(m) => put_accumulator(own, m),
+    if let Some(m) = accumulated {
+        put_accumulator(own, m);
     }
 }
 
 // An exception's vector, EPCR, EEAR and ESR.
 #[tactic(auto, unfolding(crate::specs::Commit::put_exception))]
 fn put_raised(vectors: &[u32; vectors::COUNT], own: &mut [u32; state::STATE_WORDS], x: Exception)
-    ensures { own.new ≡ put_exception vectors.now (Outcome.Raised x) own.old 0 }
+    ensures { own.new ≡ put_exception vectors.now (Err x) own.old 0 }
 {
     let cause = x.cause;
     own[state::PC] = vectors::vector(vectors, cause);
@@ -69,16 +70,17 @@ fn put_raised(vectors: &[u32; vectors::COUNT], own: &mut [u32; state::STATE_WORD
 }
 
 // What is left of an exception, if the step ends in one.
+#[tactic(auto, unfolding(crate::specs::Commit::put_exception))]
 fn put_outcome(vectors: &[u32; vectors::COUNT], own: &mut [u32; state::STATE_WORDS], outcome: Outcome)
     ensures { own.new ≡ put_exception vectors.now outcome own.old 0 }
 {
-    match outcome {
-        Outcome::Completed => {}
-        Outcome::Raised(x) => put_raised(vectors, own, x),
+    if let Err(x) = outcome {
+        put_raised(vectors, own, x);
     }
 }
 
 // The core's own state; answers how the step ends.
+#[tactic(auto, unfolding(crate::specs::Commit::own_state))]
 pub fn commit_state(vectors: &[u32; vectors::COUNT], own: &mut [u32; state::STATE_WORDS], e: Effect) -> Outcome
     requires { e.place < state_words }
     ensures { Owned vectors.now own.old e own.new result }

@@ -1,6 +1,6 @@
 -- What an instruction may do: document 01, "One instruction" and its vectors; document 02, notes 2 and 4. What each operation does of it stands in action/specs/Operations.
 -- An instruction reads x : Inputs (its fields, its registers' values and its core's state before it) and has an Effect.
-use Rattle.std.specs.Prelude.{Bool, ℕ, eqb, if◌then◌else◌}
+use Rattle.std.specs.Prelude.{Bool, ℕ, eqb, Option, Some, None, Result, Ok, Err, if◌then◌else◌}
 use Rattle.bits.specs.Word.{bit}
 use Rattle.isa.specs.declared.vectors.Cause.{Cause}
 use Rattle.isa.specs.declared.vectors.Cause.TheVariants.{Bus, Alignment, Illegal, Range, Syscall, Trap, Interrupt}
@@ -15,22 +15,22 @@ use Rattle.effect.specs.declared.types.Flow.{Flow}
 use Rattle.effect.specs.declared.types.Link.{Link}
 use Rattle.effect.specs.declared.types.Store.{Store}
 use Rattle.effect.specs.declared.types.Effect.{Effect}
-use Rattle.effect.specs.declared.types.Accumulated.{Accumulated}
-use Rattle.effect.specs.declared.types.Accumulated.TheVariants.{Kept, Became}
-use Rattle.effect.specs.declared.types.Outcome.TheVariants.{Completed, Raised}
+use Rattle.effect.specs.declared.types.Exception.{Exception}
 
 -- "A cleared link has link address 0."
 abbrev pub no_link : Link
 no_link = record { held = 0; address = 0 }
 
-abbrev pub no_store : Store
-no_store = record { width = 0; address = 0; value = 0 }
+abbrev pub no_store : Option Store
+no_store = None
 
 -- "A step ends in a completed instruction or in one exception, which carries its vector and address."
+abbrev pub Outcome : Type 0
+Outcome = Result Unit Exception
 
 -- A completed instruction: v goes to the word of its state at place ("Writes to r0 are dropped": place 0 is none), and SR, the flow, the
 -- link, the mode, MACHI and MACLO and a store are as given.
-abbrev pub completing : ℕ → ℕ → ℕ → Flow → Link → ℕ → Accumulated → Store → Effect
+abbrev pub completing : ℕ → ℕ → ℕ → Flow → Link → ℕ → Option Accumulator → Option Store → Effect
 completing place v sr flow link mode accumulated store = record {
   place = place;
   value = v;
@@ -40,12 +40,12 @@ completing place v sr flow link mode accumulated store = record {
   mode = mode;
   accumulated = accumulated;
   store = store;
-  outcome = Completed;
+  outcome = Ok tt;
 }
 
 -- one that keeps MACHI and MACLO
-abbrev pub completed : ℕ → ℕ → ℕ → Flow → Link → ℕ → Store → Effect
-completed place v sr flow link mode store = completing place v sr flow link mode Kept store
+abbrev pub completed : ℕ → ℕ → ℕ → Flow → Link → ℕ → Option Store → Effect
+completed place v sr flow link mode store = completing place v sr flow link mode None store
 
 abbrev pub in_slot : Inputs → Bool
 in_slot x = eqb x.flow.delay 1
@@ -85,17 +85,17 @@ linking x place v at = completed place v x.sr (onward x) (record { held = 1; add
 
 -- a store, once its access is granted
 abbrev pub saving : Inputs → Store → Effect
-saving x s = completed 0 0 x.sr (onward x) x.link running s
+saving x s = completed 0 0 x.sr (onward x) x.link running (Some s)
 
 -- l.swa, then: "it clears its own link either way"; F becomes flag
-abbrev pub unlinking : Inputs → ℕ → Store → Effect
+abbrev pub unlinking : Inputs → ℕ → Option Store → Effect
 unlinking x flag s = completed 0 0 (set_bit F flag x.sr) (onward x) no_link running s
 
 -- ---- the accumulator
 
 -- v goes to place, and MACHI and MACLO become m. Document 02, note 2: "The accumulating kinds .. keep the flags."
 abbrev pub accumulating : Inputs → ℕ → ℕ → Accumulator → Effect
-accumulating x place v m = completing place v x.sr (onward x) x.link running (Became m) no_store
+accumulating x place v m = completing place v x.sr (onward x) x.link running (Some m) no_store
 
 -- "macrc moves MACLO to rD and clears both." No flag is named, so all stay.
 abbrev pub reading_accumulator : Inputs → Effect
@@ -127,9 +127,9 @@ raises x place v sr cause eear = record {
   flow = record { pc = x.flow.pc; delay = 0; target = 0 };
   link = no_link;
   mode = running;
-  accumulated = Kept;
+  accumulated = None;
   store = no_store;
-  outcome = Raised (record { cause = cause; epcr = exception_pc x cause; eear = eear; esr = sr });
+  outcome = Err (record { cause = cause; epcr = exception_pc x cause; eear = eear; esr = sr });
 }
 
 -- "Bus and alignment put the failing address in EEAR, illegal its own; others keep it."

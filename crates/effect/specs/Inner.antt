@@ -1,4 +1,5 @@
 -- Helper of the code. The forms in which it hands an effect on to its commit; the papers' effects are Effect.antt.
+use Rattle.std.specs.Prelude.{Some}
 use Rattle.effect.specs.Effect.{advances, halting, faults, raises_range, jumping, returning, linking, saving, unlinking, accumulating, reading_accumulator, no_store}
 use Rattle.effect.specs.declared.types.Inputs.{Inputs}
 use Rattle.effect.specs.declared.types.Effect.{Effect}
@@ -20,7 +21,7 @@ effect_by x (RaiseRange w) = raises_range x w.place w.value w.sr
 effect_by x Return = returning x
 effect_by x Halt = halting x
 effect_by x (LoadLinked l) = linking x l.place l.value l.address
-effect_by x (SaveLinked s) = unlinking x 1 s
+effect_by x (SaveLinked s) = unlinking x 1 (Some s)
 effect_by x SaveUnlinked = unlinking x 0 no_store
 effect_by x (Accumulate m) = accumulating x 0 0 m
 effect_by x ReadAccumulator = reading_accumulator x

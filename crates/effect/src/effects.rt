@@ -1,15 +1,15 @@
+#![tactic(auto, unfolding(crate::specs::Inner::effect_by))]
 // What an action comes to: its effect, given what its instruction read.
-ghost use Rattle.std.specs.Prelude.{◌≡◌, ◌<◌};
+ghost use Rattle.std.specs.Prelude.{◌≡◌, ◌<◌, is_some};
 ghost use Rattle.bits.specs.Word.{bit};
 ghost use Rattle.effect.specs.State.{running};
-ghost use Rattle.effect.specs.Effect.{no_link, no_store, in_slot, onward as onwardOf, completed, restart as restartOf, exception_pc, raises, unlinking, accumulating};
+ghost use Rattle.effect.specs.Effect.{no_link, in_slot, onward as onwardOf, completed, restart as restartOf, exception_pc, raises, unlinking, accumulating};
 ghost use Rattle.effect.specs.Inner.{effect_by};
 ghost use Rattle.effect.specs.declared.types.Inputs.{Inputs};
 
 use crate::state;
 use crate::types::{
-    Accumulated, Action, Effect, Exception, Faulted, Flow, Inputs, Jumped, Link, Linked, Outcome,
-    Store, Written,
+    Action, Effect, Exception, Faulted, Flow, Inputs, Jumped, Link, Linked, Store, Written,
 };
 use isa::vectors::Cause;
 use product::Accumulator;
@@ -19,16 +19,6 @@ pub fn in_slot(x: Inputs) -> bool
     ensures { result ≡ in_slot x }
 {
     x.flow.delay == 1
-}
-
-fn no_store() -> Store
-    ensures { result ≡ no_store }
-{
-    Store {
-        width: 0,
-        address: 0,
-        value: 0,
-    }
 }
 
 fn no_link() -> Link
@@ -49,7 +39,7 @@ fn complete(
     flow: Flow,
     link: Link,
     mode: u32,
-    store: Store,
+    store: Option<Store>,
 ) -> Effect
     ensures { result ≡ completed place value sr flow link mode store }
 {
@@ -60,13 +50,14 @@ fn complete(
         flow,
         link,
         mode,
-        accumulated: Accumulated::Kept,
+        accumulated: None,
         store,
-        outcome: Outcome::Completed,
+        outcome: Ok(()),
     }
 }
 
 // To the next instruction, or from a slot to its target.
+#[tactic(auto, unfolding(crate::specs::Effect::onward))]
 fn onward(x: Inputs) -> Flow
     ensures { result ≡ onwardOf x }
 {
@@ -86,17 +77,18 @@ fn onward(x: Inputs) -> Flow
 }
 
 // On to there, running.
-fn go_on(x: Inputs, place: u32, value: u32, sr: u32, link: Link, store: Store) -> Effect
+fn go_on(x: Inputs, place: u32, value: u32, sr: u32, link: Link, store: Option<Store>) -> Effect
     ensures { result ≡ completed place value sr (onwardOf x) link running store }
 {
     complete(place, value, sr, onward(x), link, state::RUNNING, store)
 }
 
+#[tactic(auto, unfolding(crate::specs::Inner::effect_by, crate::specs::Effect::advances))]
 pub fn advance_effect(x: Inputs, w: Written) -> Effect
     ensures { result ≡ effect_by x (Action.Advance w) }
 {
     let link = x.link;
-    go_on(x, w.place, w.value, w.sr, link, no_store())
+    go_on(x, w.place, w.value, w.sr, link, None)
 }
 
 // To the target after the slot.
@@ -109,22 +101,14 @@ pub fn jump_effect(x: Inputs, j: Jumped) -> Effect
         target: j.target,
     };
     let link = x.link;
-    complete(
-        j.place,
-        j.value,
-        x.sr,
-        flow,
-        link,
-        state::RUNNING,
-        no_store(),
-    )
+    complete(j.place, j.value, x.sr, flow, link, state::RUNNING, None)
 }
 
 pub fn save_effect(x: Inputs, s: Store) -> Effect
     ensures { result ≡ effect_by x (Action.Save s) }
 {
     let link = x.link;
-    go_on(x, 0, 0, x.sr, link, s)
+    go_on(x, 0, 0, x.sr, link, Some(s))
 }
 
 fn return_effect(x: Inputs) -> Effect
@@ -136,14 +120,14 @@ fn return_effect(x: Inputs) -> Effect
         target: 0,
     };
     let link = x.link;
-    complete(0, 0, x.esr, flow, link, state::RUNNING, no_store())
+    complete(0, 0, x.esr, flow, link, state::RUNNING, None)
 }
 
 fn halt_effect(x: Inputs) -> Effect
     ensures { result ≡ effect_by x Action.Halt }
 {
     let link = x.link;
-    complete(0, 0, x.sr, onward(x), link, state::HALTED, no_store())
+    complete(0, 0, x.sr, onward(x), link, state::HALTED, None)
 }
 
 // l.lwa once its access is granted.
@@ -154,14 +138,14 @@ fn load_linked_effect(x: Inputs, l: Linked) -> Effect
         held: 1,
         address: l.address,
     };
-    go_on(x, l.place, l.value, x.sr, link, no_store())
+    go_on(x, l.place, l.value, x.sr, link, None)
 }
 
-// l.swa once its access is granted: `t` if its link was to that word.
-fn save_linked_effect(x: Inputs, t: bool, s: Store) -> Effect
-    ensures { result ≡ unlinking x (bit t) s }
+// l.swa once its access is granted: it stores if its link was to that word.
+fn save_linked_effect(x: Inputs, s: Option<Store>) -> Effect
+    ensures { result ≡ unlinking x (bit (is_some s)) s }
 {
-    let sr = arith::set_flag(x.sr, t);
+    let sr = arith::set_flag(x.sr, s.is_some());
     go_on(x, 0, 0, sr, no_link(), s)
 }
 
@@ -177,9 +161,9 @@ fn accumulate_effect(x: Inputs, place: u32, value: u32, m: Accumulator) -> Effec
         flow: onward(x),
         link,
         mode: state::RUNNING,
-        accumulated: Accumulated::Became(m),
-        store: no_store(),
-        outcome: Outcome::Completed,
+        accumulated: Some(m),
+        store: None,
+        outcome: Ok(()),
     }
 }
 
@@ -194,6 +178,7 @@ fn read_accumulator_effect(x: Inputs) -> Effect
 // ---- exceptions
 
 // The address that EPCR keeps: in a slot, its jump's.
+#[tactic(auto, unfolding(crate::specs::Effect::restart))]
 fn restart(x: Inputs) -> u32
     ensures { result ≡ restartOf x }
 {
@@ -223,6 +208,7 @@ fn slot_bit(x: Inputs) -> u32
 }
 
 // The exception, once `value` went to `place` and SR became `sr`. Its commit goes to the vector.
+#[tactic(auto, unfolding(crate::specs::Effect::raises))]
 fn raise(x: Inputs, place: u32, value: u32, sr: u32, cause: Cause, eear: u32) -> Effect
     ensures { result ≡ raises x place value sr cause eear }
 {
@@ -237,9 +223,9 @@ fn raise(x: Inputs, place: u32, value: u32, sr: u32, cause: Cause, eear: u32) ->
         },
         link: no_link(),
         mode: state::RUNNING,
-        accumulated: Accumulated::Kept,
-        store: no_store(),
-        outcome: Outcome::Raised(Exception {
+        accumulated: None,
+        store: None,
+        outcome: Err(Exception {
             cause,
             epcr: exception_pc(x, cause),
             eear,
@@ -277,20 +263,21 @@ pub fn effect_by(x: Inputs, action: Action) -> Effect
         Action::Return => return_effect(x),
         Action::Halt => halt_effect(x),
         Action::LoadLinked(l) => load_linked_effect(x, l),
-        Action::SaveLinked(s) => save_linked_effect(x, true, s),
-        Action::SaveUnlinked => save_linked_effect(x, false, no_store()),
+        Action::SaveLinked(s) => save_linked_effect(x, Some(s)),
+        Action::SaveUnlinked => save_linked_effect(x, None),
         Action::Accumulate(m) => accumulate_effect(x, 0, 0, m),
         Action::ReadAccumulator => read_accumulator_effect(x),
     }
 }
 
 // What an action stores.
-pub fn store_of(action: Action) -> Store
+#[tactic(auto, unfolding(crate::specs::Inner::effect_by, crate::specs::Effect::advances, crate::specs::Effect::raises))]
+pub fn store_of(action: Action) -> Option<Store>
     ensures { (x : Inputs) → result ≡ (effect_by x action).store }
 {
     match action {
-        Action::Save(s) => s,
-        Action::SaveLinked(s) => s,
-        _ => no_store(),
+        Action::Save(s) => Some(s),
+        Action::SaveLinked(s) => Some(s),
+        _ => None,
     }
 }

@@ -17,7 +17,7 @@ pub struct Link {
     pub address: u32,
 }
 
-// The bytes that an instruction stores; width 0 is none.
+// The bytes that an instruction stores.
 #[derive(Clone, Copy)]
 pub struct Store {
     pub width: u32,
@@ -33,19 +33,8 @@ pub struct Exception {
     pub esr: u32,
 }
 
-// What becomes of MACHI and MACLO.
-#[derive(Clone, Copy)]
-pub enum Accumulated {
-    Kept,
-    Became(Accumulator),
-}
-
-// How a step ends.
-#[derive(Clone, Copy)]
-pub enum Outcome {
-    Completed,
-    Raised(Exception),
-}
+// How a step ends: in a completed instruction, or in one exception.
+pub type Outcome = Result<(), Exception>;
 
 // What every instruction of a run is given beside its core's state: how many cores there are, how many bytes at the start of memory are read-only, and the
 // list of vectors, lent: by value it would make every step dearer.
@@ -75,8 +64,8 @@ pub struct Inputs {
     pub picsr: u32,
 }
 
-// What an instruction does: the one word of its state that it writes besides SR, the flow, the link, the mode and the accumulator; its store; how it
-// ends.
+// What an instruction does: the one word of its state that it writes besides SR, the flow, the link, the mode and the
+// accumulator; what MACHI and MACLO become, if they do not stay; its store, if it stores; how it ends.
 #[derive(Clone, Copy)]
 pub struct Effect {
     pub place: u32,
@@ -85,8 +74,8 @@ pub struct Effect {
     pub flow: Flow,
     pub link: Link,
     pub mode: u32,
-    pub accumulated: Accumulated,
-    pub store: Store,
+    pub accumulated: Option<Accumulator>,
+    pub store: Option<Store>,
     pub outcome: Outcome,
 }
 

@@ -3,6 +3,7 @@ use mathlib.Core.List.{List}
 use mathlib.Core.Path.{◌≡◌, subst}
 use Prim.Native.Nat.{ℕ, ◌<◌}
 use lib.ListN.{length}
+use Rattle.std.specs.Prelude.{Option}
 use Rattle.isa.proofs.Registers.{fields_registers}
 use Rattle.effect.specs.State.{state_words}
 use Rattle.effect.specs.Effect.{advances}
@@ -14,19 +15,18 @@ use Rattle.effect.specs.declared.types.Action.TheVariants.{Advance}
 use Rattle.effect.specs.Board.{Board}
 use Rattle.effect.specs.declared.types.Effect.{Effect}
 use Rattle.effect.specs.declared.types.Store.{Store}
-use Rattle.commit.specs.Inner as can
 use Rattle.commit.specs.Inner.{entry_inputs, action_effect, Storable, Fits, Commits}
 use Rattle.commit.specs.declared.Done.{Done}
 use Rattle.commit.proofs.Commits.{fits_as, performed_as}
 use Rattle.semantics.specs.Meaning.{meaning}
-use Rattle.lawful.specs.Inner.{Sound, SoundStore, none, some}
+use Rattle.lawful.specs.Inner.{Sound, SoundStore, stores_none, stores_some}
 use Rattle.lawful.proofs.Sound.{meaning_sound}
 use Rattle.exec.specs.Inner.{Performs}
 
 -- what a sound effect writes can be committed
-sound_storable : {board : Board} {len : ℕ} {s : Store} → SoundStore board len s → Storable len s
-sound_storable (none z) = can.none z
-sound_storable (some w) = can.some w.wide w.inside
+sound_storable : {board : Board} {len : ℕ} {s : Option Store} → SoundStore board len s → Storable len s
+sound_storable stores_none = tt
+sound_storable (stores_some w) = (w.wide, w.inside)
 
 sound_fits : {board : Board} {len : ℕ} {e : Effect} → Sound board len e → Fits len e
 sound_fits h = record { place_lt = h.place_lt; storable = sound_storable h.sound_store }

@@ -9,17 +9,15 @@ use lib.Dec.{T, eqb, ltb, ltb→lt}
 use lib.ListN.{length, length-set}
 use lib.Seq.{get_or-set_same, get_or-set_other}
 use borrow.Author.Tests.{ne_eqb, eqb-true, eqb-false, not-true}
-use Rattle.std.specs.Prelude.{if◌then◌else◌}
+use Rattle.std.specs.Prelude.{Option, Some, None, Ok, Err, if◌then◌else◌}
 use Rattle.bits.proofs.Tests.{and_left, and_right, of_T}
 use Rattle.bits.proofs.Cases.{if_law, if_both}
 use Rattle.isa.specs.Vectors.{vector}
 use Rattle.effect.specs.State.{state_words, pc_at, delay_at, target_at, sr_at, epcr_at, eear_at, esr_at, link_at, link_address_at, mode_at, machi_at, maclo_at, picmr_at, picsr_at}
 use Rattle.effect.specs.Board.{Board}
-use Rattle.effect.specs.declared.types.Accumulated.{Accumulated}
-use Rattle.effect.specs.declared.types.Accumulated.TheVariants.{Kept, Became}
+use Rattle.product.specs.declared.Accumulator.{Accumulator}
+use Rattle.effect.specs.Effect.{Outcome}
 use Rattle.effect.specs.declared.types.Exception.{Exception}
-use Rattle.effect.specs.declared.types.Outcome.{Outcome}
-use Rattle.effect.specs.declared.types.Outcome.TheVariants.{Completed, Raised}
 use Rattle.effect.specs.declared.types.Effect.{Effect}
 use Rattle.commit.specs.Commit.{word_at, put, put_value, put_flow, put_status, put_accumulated, put_exception, own_state}
 use Rattle.lawful.specs.Inner.{Status, Multiple, LawfulVectors, Mask, own, LawfulState, LawfulWord, to_register, to_epcr, to_eear, to_esr, to_machi, to_maclo, to_picmr, to_picsr, LawfulOutcome, completes, raised, Lawful}
@@ -67,43 +65,43 @@ always e l =
     (pc_at, e.flow.pc) ∷ (delay_at, e.flow.delay) ∷ (target_at, e.flow.target) ∷ (sr_at, e.sr) ∷ (link_at, e.link.held)
     ∷ (link_address_at, e.link.address) ∷ (mode_at, e.mode) ∷ l
 
-abbrev accumulations : Accumulated → List (ℕ × ℕ) → List (ℕ × ℕ)
-accumulations Kept l = l
-accumulations (Became m) l = (machi_at, m.high) ∷ (maclo_at, m.low) ∷ l
+abbrev accumulations : Option Accumulator → List (ℕ × ℕ) → List (ℕ × ℕ)
+accumulations None l = l
+accumulations (Some m) l = (machi_at, m.high) ∷ (maclo_at, m.low) ∷ l
 
 abbrev exceptional : List ℕ → Outcome → List (ℕ × ℕ)
-exceptional vectors Completed = []
-exceptional vectors (Raised x) = (pc_at, vector vectors x.cause) ∷ (epcr_at, x.epcr) ∷ (eear_at, x.eear) ∷ (esr_at, x.esr) ∷ []
+exceptional vectors (Ok u) = []
+exceptional vectors (Err x) = (pc_at, vector vectors x.cause) ∷ (epcr_at, x.epcr) ∷ (eear_at, x.eear) ∷ (esr_at, x.esr) ∷ []
 
 -- what an effect puts there, after its value
-abbrev pub changes : List ℕ → Effect → Accumulated → Outcome → List (ℕ × ℕ)
+abbrev pub changes : List ℕ → Effect → Option Accumulator → Outcome → List (ℕ × ℕ)
 changes vectors e a o = always e (accumulations a (exceptional vectors o))
 
-pub changes_inside : (vectors : List ℕ) (e : Effect) (a : Accumulated) (o : Outcome) → T (inside (changes vectors e a o))
-changes_inside vectors e Kept Completed = tt
-changes_inside vectors e Kept (Raised x) = tt
-changes_inside vectors e (Became m) Completed = tt
-changes_inside vectors e (Became m) (Raised x) = tt
+pub changes_inside : (vectors : List ℕ) (e : Effect) (a : Option Accumulator) (o : Outcome) → T (inside (changes vectors e a o))
+changes_inside vectors e None (Ok u) = tt
+changes_inside vectors e None (Err x) = tt
+changes_inside vectors e (Some m) (Ok u) = tt
+changes_inside vectors e (Some m) (Err x) = tt
 
 pub own_puts : (vectors s : List ℕ) (core : ℕ) (e : Effect) → own_state vectors s core e ≡ puts (changes vectors e e.accumulated e.outcome) (put_value s core e) core
 unfolding own_state put_status put_flow put_accumulated put_exception
 own_puts vectors s core e = go e.accumulated e.outcome
   where
-    go : (a : Accumulated) (o : Outcome)
+    go : (a : Option Accumulator) (o : Outcome)
         → put_exception vectors o (put_accumulated a (put_status (put_flow (put_value s core e) core e) core e) core) core ≡ puts (changes vectors e a o) (put_value s core e) core
-    go Kept Completed = refl
-    go Kept (Raised x) = refl
-    go (Became m) Completed = refl
-    go (Became m) (Raised x) = refl
+    go None (Ok u) = refl
+    go None (Err x) = refl
+    go (Some m) (Ok u) = refl
+    go (Some m) (Err x) = refl
 
 -- some rule looks at the place; at MACHI, MACLO and PICSR none does
 abbrev pub ruled : ℕ → Bool
 ruled j = not (eqb machi_at j) && (not (eqb maclo_at j) && not (eqb picsr_at j))
 
 -- the accumulator is seen at no such place
-unseen : (a : Accumulated) (l : List (ℕ × ℕ)) (j d : ℕ) → T (ruled j) → seen (accumulations a l) j d ≡ seen l j d
-unseen Kept l j d t = refl
-unseen (Became m) l j d t = ap (seen l j) kept
+unseen : (a : Option Accumulator) (l : List (ℕ × ℕ)) (j d : ℕ) → T (ruled j) → seen (accumulations a l) j d ≡ seen l j d
+unseen None l j d t = refl
+unseen (Some m) l j d t = ap (seen l j) kept
   where
     rest : Bool
     rest = not (eqb maclo_at j) && not (eqb picsr_at j)
@@ -136,11 +134,11 @@ own_other vectors s core e c j h n g =
 
 -- ---- an exception goes to its vector
 
-vector_seen : (vectors : List ℕ) (e : Effect) (a : Accumulated) (x : Exception) (d : ℕ) → seen (changes vectors e a (Raised x)) pc_at d ≡ vector vectors x.cause
-vector_seen vectors e Kept x d = refl
-vector_seen vectors e (Became m) x d = refl
+vector_seen : (vectors : List ℕ) (e : Effect) (a : Option Accumulator) (x : Exception) (d : ℕ) → seen (changes vectors e a (Err x)) pc_at d ≡ vector vectors x.cause
+vector_seen vectors e None x d = refl
+vector_seen vectors e (Some m) x d = refl
 
-pub own_vector : (vectors s : List ℕ) (core : ℕ) (e : Effect) (x : Exception) → core * state_words + state_words ≤ length s → e.outcome ≡ Raised x
+pub own_vector : (vectors s : List ℕ) (core : ℕ) (e : Effect) (x : Exception) → core * state_words + state_words ≤ length s → e.outcome ≡ Err x
     → word_at (own_state vectors s core e) core pc_at ≡ vector vectors x.cause
 own_vector vectors s core e x fits h =
     let n : length (put_value s core e) ≡ length s = length_value s core e in
@@ -235,7 +233,7 @@ module _ {board : Board} (s : List ℕ) (core : ℕ) (fits : core * state_words 
       go {p} {v} (to_picsr m) n = untouched picsr_at v n (λ z. omega arith) (λ z. omega arith) (λ z. omega arith)
 
   changed : (vectors : List ℕ) → LawfulVectors vectors → {picsr : ℕ} (e : Effect) → Lawful picsr e → {o : Outcome} → LawfulOutcome o → (t : List ℕ) → Value (word_at t core)
-      → LawfulState board core (λ j. seen (changes vectors e Kept o) j (word_at t core j))
+      → LawfulState board core (λ j. seen (changes vectors e None o) j (word_at t core j))
   changed vectors multiple e l completes t v =
       record {
         zero_register = v.zero_kept;
@@ -269,20 +267,28 @@ module _ {board : Board} (s : List ℕ) (core : ℕ) (fits : core * state_words 
   own_accepted vectors multiple e l =
       let t = put_value s core e in
       let n : length t ≡ length s = length_value s core e in
-      lawful_same (λ j. seen (changes vectors e Kept e.outcome) j (word_at t core j)) (word_at (own_state vectors s core e) core)
+      lawful_same (λ j. seen (changes vectors e None e.outcome) j (word_at t core j)) (word_at (own_state vectors s core e) core)
       (λ j h t'.
       ap (λ (u : List ℕ). word_at u core j) (own_puts vectors s core e) ∙ puts_seen (changes vectors e e.accumulated e.outcome) t core j (omega arith)
       ∙ unseen e.accumulated (exceptional vectors e.outcome) j _ t')
       (changed vectors multiple e l l.outcome_lawful t (value_kept e.place e.value l.word_lawful))
 
+-- ---- its mode is the effect's
+
+pub mode_seen : (vectors : List ℕ) (e : Effect) (a : Option Accumulator) (o : Outcome) (d : ℕ) → seen (changes vectors e a o) mode_at d ≡ e.mode
+mode_seen vectors e None (Ok u) d = refl
+mode_seen vectors e None (Err x) d = refl
+mode_seen vectors e (Some m) (Ok u) d = refl
+mode_seen vectors e (Some m) (Err x) d = refl
+
 -- ---- PICSR never grows
 
 -- nothing but the value is put there
-picsr_unseen : (vectors : List ℕ) (e : Effect) (a : Accumulated) (o : Outcome) (d : ℕ) → seen (changes vectors e a o) picsr_at d ≡ d
-picsr_unseen vectors e Kept Completed d = refl
-picsr_unseen vectors e Kept (Raised x) d = refl
-picsr_unseen vectors e (Became m) Completed d = refl
-picsr_unseen vectors e (Became m) (Raised x) d = refl
+picsr_unseen : (vectors : List ℕ) (e : Effect) (a : Option Accumulator) (o : Outcome) (d : ℕ) → seen (changes vectors e a o) picsr_at d ≡ d
+picsr_unseen vectors e None (Ok u) d = refl
+picsr_unseen vectors e None (Err x) d = refl
+picsr_unseen vectors e (Some m) (Ok u) d = refl
+picsr_unseen vectors e (Some m) (Err x) d = refl
 
 module _ (s : List ℕ) (core : ℕ) (fits : core * state_words + state_words ≤ length s) where
   value_picsr : (p v : ℕ) → LawfulWord (word_at s core picsr_at) p v → word_at (if eqb p 0 then s else put s core p v) core picsr_at ≤ word_at s core picsr_at

@@ -9,6 +9,7 @@ use lib.Dec.{eqb, ltb}
 use lib.IntN.{sub_ℕ, ◌-ℤ◌}
 use lib.ListN.{length}
 use borrow.Author.Tests.{ltb-false}
+use Rattle.std.specs.Prelude.{Option}
 use Rattle.bits.specs.Word.{bit, word}
 use Rattle.bits.proofs.Cases.{if_law, if_both}
 use Rattle.isa.specs.Register.{Register}
@@ -32,7 +33,6 @@ use Rattle.effect.specs.Board.{Board}
 use Rattle.effect.specs.declared.types.Flow.{Flow}
 use Rattle.effect.specs.declared.types.Link.{Link}
 use Rattle.effect.specs.declared.types.Store.{Store}
-use Rattle.effect.specs.declared.types.Accumulated.{Accumulated}
 use Rattle.action.specs.Operations.{nop, sets_flag, syscall, flags, result_or_raises, divides, jump, branch, register_jump, returns, load, load_linked, linked, store, store_conditional, touch, sets_special_register}
 use Rattle.semantics.specs.Meaning.{meaning}
 use Rattle.lawful.specs.Inner.{Status, Multiple, Mask, LawfulFlow, LawfulLink, OwnMode, is_halted, is_running_lem, LawfulInputs, LawfulWord, to_register, to_epcr, to_eear, to_esr, to_machi, to_maclo, to_picmr, to_picsr, completes, raised, Lawful}
@@ -63,7 +63,7 @@ pub no_link_lawful : LawfulLink (record { held = 0; address = 0 })
 no_link_lawful = record { held_bit = omega arith; address_multiple = refl; no_address = λ _. refl }
 
 -- a completed instruction
-completed_lawful : {picsr place v sr mode : ℕ} {flow : Flow} {link : Link} {a : Accumulated} {store : Store} → LawfulWord picsr place v → Status sr → LawfulFlow flow
+completed_lawful : {picsr place v sr mode : ℕ} {flow : Flow} {link : Link} {a : Option Accumulator} {store : Option Store} → LawfulWord picsr place v → Status sr → LawfulFlow flow
     → LawfulLink link → OwnMode mode → Lawful picsr (completing place v sr flow link mode a store)
 completed_lawful w s f l m =
     record { word_lawful = w; flow_lawful = f; link_lawful = l; sr_lawful = s; mode_lawful = m; outcome_lawful = completes }

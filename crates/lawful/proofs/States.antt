@@ -6,7 +6,7 @@ use Prim.Native.Nat.{ℕ, ◌*◌, ◌<◌, ◌≤◌}
 use native.Mathlib.Nat.{le_refl}
 use native.Mathlib.Omega.{arith}
 use lib.ListN.{length}
-use Rattle.std.specs.Prelude.{if◌then◌else◌}
+use Rattle.std.specs.Prelude.{Err, if◌then◌else◌}
 use Rattle.bits.proofs.Cases.{if_both, by_equality}
 use Rattle.isa.specs.Vectors.{vector}
 use Rattle.effect.specs.State.{state_words, pc_at, link_at, link_address_at, picsr_at}
@@ -14,7 +14,6 @@ use Rattle.effect.specs.Effect.{no_link}
 use Rattle.effect.specs.declared.types.Link.{Link}
 use Rattle.effect.specs.declared.types.Effect.{Effect}
 use Rattle.effect.specs.declared.types.Exception.{Exception}
-use Rattle.effect.specs.declared.types.Outcome.TheVariants.{Raised}
 use Rattle.effect.specs.Board.{Board}
 use Rattle.commit.specs.Commit.{word_at, core_count, own_state, clear_links, writes_memory, touched, states_after}
 use Rattle.lawful.specs.Inner.{LawfulWord, to_register, to_epcr, to_eear, to_esr, to_machi, to_maclo, to_picmr, to_picsr, LawfulVectors, Lawful}
@@ -72,7 +71,7 @@ module _ (vectors s : List ℕ) (core : ℕ) (e : Effect) where
       go o k false = o
 
   -- an exception's core goes on at the vector that the list has for its cause, whatever the instruction wrote
-  pub states_vector : (x : Exception) → core < core_count s → e.outcome ≡ Raised x → word_at (states_after vectors s core e) core pc_at ≡ vector vectors x.cause
+  pub states_vector : (x : Exception) → core < core_count s → e.outcome ≡ Err x → word_at (states_after vectors s core e) core pc_at ≡ vector vectors x.cause
   unfolding states_after
   states_vector x h r =
       let t = own_state vectors s core e in

@@ -1,19 +1,18 @@
 -- Helper of the laws. The rules of a state (effect/specs/State.antt) as facts on its parts, what of them an instruction reads and its effect keeps, and
 -- where an effect may write.
-use Rattle.std.specs.Prelude.{List, ◌≡◌, ℕ, ◌+◌, ◌%◌, ◌<◌, ◌≤◌}
+use Rattle.std.specs.Prelude.{List, ◌≡◌, ℕ, ◌+◌, ◌%◌, ◌<◌, ◌≤◌, Option, Some, None, Ok, Err}
 use Rattle.isa.specs.Register.{Register}
 use Rattle.isa.specs.Vectors.{vector}
 use Rattle.isa.specs.declared.vectors.Cause.{Cause}
 use Rattle.arith.specs.Status.{allowed}
 use Rattle.memory.specs.Memory.{Width}
 use Rattle.effect.specs.State.{state_words, pc_at, delay_at, target_at, sr_at, epcr_at, eear_at, esr_at, link_at, link_address_at, mode_at, machi_at, maclo_at, picmr_at, picsr_at, halted, linked, running}
+use Rattle.effect.specs.Effect.{Outcome}
 use Rattle.effect.specs.declared.types.Inputs.{Inputs}
 use Rattle.effect.specs.Board.{Board}
 use Rattle.effect.specs.declared.types.Flow.{Flow}
 use Rattle.effect.specs.declared.types.Link.{Link}
 use Rattle.effect.specs.declared.types.Exception.{Exception}
-use Rattle.effect.specs.declared.types.Outcome.{Outcome}
-use Rattle.effect.specs.declared.types.Outcome.TheVariants.{Completed, Raised}
 use Rattle.effect.specs.declared.types.Store.{Store}
 use Rattle.effect.specs.declared.types.Effect.{Effect}
 
@@ -89,8 +88,8 @@ pub data LawfulWord (picsr : ℕ) : ℕ → ℕ → Type 0 where
   to_picsr : {v : ℕ} → v ≤ picsr → LawfulWord picsr picsr_at v
 
 pub data LawfulOutcome : Outcome → Type 0 where
-  completes : LawfulOutcome Completed
-  raised : {x : Exception} → Multiple x.epcr → Status x.esr → LawfulOutcome (Raised x)
+  completes : LawfulOutcome (Ok tt)
+  raised : {x : Exception} → Multiple x.epcr → Status x.esr → LawfulOutcome (Err x)
 
 -- all that an effect on a state with that PICSR names obeys the rules (the vector of an exception, where PC goes at the commit, is the list's)
 pub record Lawful (picsr : ℕ) (e : Effect) : Type 0 where
@@ -110,9 +109,9 @@ pub record InWord (board : Board) (len : ℕ) (s : Store) : Type 0 where
   pub inside : s.address + s.width ≤ len
   pub in_word : s.address % 4 + s.width ≤ 4
 
-pub data SoundStore (board : Board) (len : ℕ) (s : Store) : Type 0 where
-  none : s.width ≡ 0 → SoundStore board len s
-  some : InWord board len s → SoundStore board len s
+pub data SoundStore (board : Board) (len : ℕ) : Option Store → Type 0 where
+  stores_none : SoundStore board len None
+  stores_some : {s : Store} → InWord board len s → SoundStore board len (Some s)
 
 -- len is the length of memory
 pub record Sound (board : Board) (len : ℕ) (e : Effect) : Type 0 where

@@ -4,15 +4,11 @@ use mathlib.Core.Bool.{or-true}
 use Rattle.bits.proofs.Cases.{if_both, by_equality}
 use Rattle.effect.specs.State.{mode_at, linked}
 use Rattle.effect.specs.Board.{Board}
-use Rattle.effect.specs.declared.types.Accumulated.{Accumulated}
-use Rattle.effect.specs.declared.types.Accumulated.TheVariants.{Kept, Became}
-use Rattle.effect.specs.declared.types.Outcome.{Outcome}
-use Rattle.effect.specs.declared.types.Outcome.TheVariants.{Completed, Raised}
 use Rattle.effect.specs.declared.types.Effect.{Effect}
 use Rattle.commit.specs.Commit.{word_at, core_count, put_value, own_state, writes_memory, touched, states_after}
 use Rattle.lawful.specs.Inner.{LawfulVectors, OwnMode, is_halted, is_running_lem, Lawful}
 use Rattle.lawful.specs.Accepted.{AllAccepted}
-use Rattle.lawful.proofs.Commit.{seen, puts_seen, changes, own_puts, length_value, length_own}
+use Rattle.lawful.proofs.Commit.{puts_seen, changes, mode_seen, own_puts, length_value, length_own}
 use Rattle.lawful.proofs.Links.{clears_rest}
 use Rattle.lawful.proofs.States.{lawful_place, length_states, other_states}
 use Rattle.pic.specs.Interrupt.{latched}
@@ -50,12 +46,6 @@ none_follow board lead zero x h k = refl
 none_follow board lead (suc n) x h k = rw (none_follow board lead n x (omega arith) k, ne_eqb _ _ (k (suc n) h))
 
 -- ---- an effect leaves its core in its mode
-
-mode_seen : (vectors : List ℕ) (e : Effect) (a : Accumulated) (o : Outcome) (d : ℕ) → seen (changes vectors e a o) mode_at d ≡ e.mode
-mode_seen vectors e Kept Completed d = refl
-mode_seen vectors e Kept (Raised x) d = refl
-mode_seen vectors e (Became m) Completed d = refl
-mode_seen vectors e (Became m) (Raised x) d = refl
 
 module _ (vectors s : List ℕ) (core : ℕ) (e : Effect) where
   mode_own : core < core_count s → word_at (own_state vectors s core e) core mode_at ≡ e.mode

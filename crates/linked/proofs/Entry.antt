@@ -1,14 +1,13 @@
 -- One entry of the schedule with the linked cores, as its code goes: the step of its own core, counted from 0, tells whether its fetch is shared. Assumes
 -- nothing.
+use Rattle.std.specs.Prelude.{Ok, Err}
 use Rattle.std.proofs.Common.{◌≡◌, ℕ, ◌+◌, ◌-◌, ◌/◌, ◌<◌, ◌≤◌, Bool, true, false, not, ◌&&◌, T, eqb, leb, List, [], ◌∷◌, length, get_or, drop, sym, refl, ap, ◌∙◌, subst, ap₂, zero-le, le_refl, add-zero, zero-add, add-one, arith, eqb→eq, drop_of_length-le, drop-cons, ne_eqb}
 use mathlib.Core.Bool.{and-false}
 use Rattle.bits.proofs.Cases.{by_equality, if_both}
 use Rattle.bits.proofs.Tests.{and_left, and_right, T_of, of_T}
 use Rattle.effect.specs.State.{state_words, pc_at}
 use Rattle.effect.specs.Board.{Board}
-use Rattle.effect.specs.Effect.{raises}
-use Rattle.effect.specs.declared.types.Outcome.{Outcome}
-use Rattle.effect.specs.declared.types.Outcome.TheVariants.{Completed, Raised}
+use Rattle.effect.specs.Effect.{raises, Outcome}
 use Rattle.effect.specs.declared.types.Effect.{Effect}
 use Rattle.effect.specs.declared.types.Flow.{Flow}
 use Rattle.commit.specs.Commit.{word_at, core_count, raised_by}
@@ -38,8 +37,8 @@ use Rattle.linked.proofs.Cases.{unscheduled_runnable, board_again, runnable_agai
 -- ---- the counts of a step
 
 raised_le : (o : Outcome) → raised_by o ≤ 1
-raised_le Completed = zero-le
-raised_le (Raised x) = le_refl 1
+raised_le (Ok u) = zero-le
+raised_le (Err x) = le_refl 1
 
 -- what is no fetch raises
 unfetched_raises : (s : List ℕ) (core : ℕ) → raised_by (unfetched s core).outcome ≡ 1

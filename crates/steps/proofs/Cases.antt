@@ -13,9 +13,8 @@ use Rattle.bits.proofs.Cases.{if_both}
 use Rattle.bits.proofs.Tests.{and_left, and_right, T_of, of_T}
 use Rattle.effect.specs.State.{state_words, pc_at, mode_at, picsr_at, linked, running}
 use Rattle.effect.specs.Board.{Board}
-use Rattle.effect.specs.Effect.{no_store}
+use Rattle.effect.specs.Effect.{no_store, Outcome}
 use Rattle.effect.specs.declared.types.Effect.{Effect}
-use Rattle.effect.specs.declared.types.Outcome.{Outcome}
 use Rattle.commit.specs.Commit.{word_at, fetch_fault}
 use Rattle.commit.specs.Inner.{tells}
 use Rattle.commit.specs.declared.Done.{Done}

@@ -21,10 +21,7 @@ pub struct Counts {
 fn raised_by(outcome: Outcome) -> u32
     ensures { (result ≡ raised_by outcome) × (result ≤ 1) }
 {
-    match outcome {
-        Outcome::Completed => 0,
-        Outcome::Raised(_) => 1,
-    }
+    outcome.is_err() as u32
 }
 
 // The counts after one more entry of the schedule.

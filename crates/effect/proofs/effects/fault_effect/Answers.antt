@@ -1,6 +1,0 @@
-use Rattle.effect.specs.Inner.{effect_by}
-use Rattle.effect.proofs.effects.fault_effect.Goals as goal
-
-pub returns : goal.returns
-unfolding effect_by
-returns c = c.raise.ensures
