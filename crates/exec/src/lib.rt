@@ -32,8 +32,8 @@ pub fn execute(
     let (_, rest) = states.split_at_mut(core as usize * STATE_WORDS);
     let own = rest.first_chunk_mut().unwrap();
     let done = perform::perform(board, memory, own, core, kind, entry);
-    if done.stored {
-        commit::links::clear_links(states, done.address / 4 * 4);
+    if let Some(address) = done.stored {
+        commit::links::clear_links(states, address / 4 * 4);
     }
     done
 }
