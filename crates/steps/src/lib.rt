@@ -207,15 +207,7 @@ pub fn execute_form(
     requires form { IsForm form }
     ensures { FormExecuted (lent memory.old states.old (core ∷ []) (0 ∷ []) limit vectors.now) cache.old core form memory.new states.new cache.new result }
 {
-    let counts = entries(
-        memory,
-        states,
-        &[core],
-        &[0],
-        limit,
-        vectors,
-        cache,
-        Some(form),
-    );
+    let given = Some(form);
+    let counts = entries(memory, states, &[core], &[0], limit, vectors, cache, given);
     counts.raised == 0
 }
