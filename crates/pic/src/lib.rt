@@ -1,20 +1,22 @@
 #![tactic(auto)]
 // The interrupt controller of document 001 (PIC): line levels are latched in PICSR, and what is latched there interrupts its core.
+ghost use Rattle.std.specs.List.{fold};
+ghost use Rattle.std.specs.Int.Bits.{bit_or};
 ghost use Rattle.std.specs.Prelude.{List, ◌≡◌, ℕ, ◌+◌, ◌*◌, ◌≤◌, ◌<◌, length};
 ghost use Rattle.isa.specs.Vectors.{vector_count};
 ghost use Rattle.effect.specs.State.{state_words};
 ghost use Rattle.effect.specs.Effect.{no_store};
-ghost use Rattle.commit.specs.Commit.{core_count};
 ghost use Rattle.commit.specs.Inner.{tells};
 ghost use Rattle.exec.specs.Inner.{Executed};
 ghost use Rattle.pic.specs.Interrupt.{latched, is_interrupted, interruption};
-ghost use Rattle.pic.specs.Inner.{joined, none_latched, is_quiet};
+ghost use Rattle.pic.specs.Inner.{none_latched, is_quiet};
 
 use effect::state;
 use effect::types::{Faulted, Outcome};
 use isa::vectors::Cause;
 
 // PICSR gains the lines that are high and not masked.
+#[tactic(auto, unfolding(crate::specs::Interrupt::latched))]
 fn gain(states: &mut [u32], core: usize, lines: u32)
     requires { core * state_words + state_words ≤ length states.old }
     ensures { states.new ≡ latched states.old core lines }
@@ -25,57 +27,40 @@ fn gain(states: &mut [u32], core: usize, lines: u32)
 }
 
 // A line is latched, interrupts are enabled, and no slot is pending.
+#[tactic(auto, unfolding(crate::specs::Interrupt::is_interrupted))]
 fn interrupted(states: &[u32], core: usize) -> bool
     requires { core * state_words + state_words ≤ length states.now }
     ensures { result ≡ is_interrupted states.now core }
 {
     let base = core * state::STATE_WORDS;
-    if states[base + state::PICSR] == 0 {
-        return false;
-    }
-    if arith::interrupts_enabled(states[base + state::SR]) {
-        return states[base + state::DELAY] == 0;
-    }
-    false
+    states[base + state::PICSR] != 0
+        && arith::interrupts_enabled(states[base + state::SR])
+        && states[base + state::DELAY] == 0
 }
 
-// All lines that are high in any of the levels. The loop has no way out, so that the compiler makes vector code of it.
+// All lines that are high in any of the levels. A fold has no way out, so that the compiler makes vector code of it.
 fn high(levels: &[u32]) -> u32
-    ensures { result ≡ joined 0 levels.now }
+    ensures { result ≡ fold bit_or 0 levels.now }
 {
-    let mut lines: u32 = 0;
-    let mut i = 0;
-    while i < levels.len() {
-        lines = lines | levels[i];
-        i += 1;
-    }
-    lines
+    levels.iter().fold(0, |high, lines| high | *lines)
 }
 
 // No line is latched of any core.
+#[tactic(auto, unfolding(crate::specs::Inner::none_latched))]
 fn none_latched(states: &[u32]) -> bool
-    ensures { result ≡ none_latched (core_count states.now) states.now }
+    ensures { result ≡ none_latched states.now }
 {
     let cores = states.len() / state::STATE_WORDS;
-    let mut core = 0;
-    while core < cores {
-        if states[core * state::STATE_WORDS + state::PICSR] != 0 {
-            return false;
-        }
-        core += 1;
-    }
-    true
+    (0..cores).all(|core| states[core * state::STATE_WORDS + state::PICSR] == 0)
 }
 
 // No line is high in any of the levels, and none is latched of any core. Then nothing can interrupt while their entries are run, since no instruction
 // makes PICSR greater.
+#[tactic(auto, unfolding(crate::specs::Inner::is_quiet))]
 pub fn quiet(states: &[u32], levels: &[u32]) -> bool
     ensures { result ≡ is_quiet states.now levels.now }
 {
-    if high(levels) == 0 {
-        return none_latched(states);
-    }
-    false
+    high(levels) == 0 && none_latched(states)
 }
 
 // Latches the lines of a running core's entry; answers whether an interrupt takes the place of its fetch.
