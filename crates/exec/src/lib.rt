@@ -43,8 +43,8 @@ pub fn execute(
         kind,
         entry,
     );
-    if done.stored {
-        commit::links::clear_links(states, done.address / 4 * 4);
+    if let Some(address) = done.stored {
+        commit::links::clear_links(states, address / 4 * 4);
     }
     done
 }
