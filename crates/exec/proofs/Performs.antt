@@ -1,8 +1,7 @@
--- An action that is what its kind means: it can be committed, and its commit performs the kind. Assumes nothing.
+-- An action that is what its kind means can be committed. Assumes nothing.
 use mathlib.Core.List.{List}
 use mathlib.Core.Path.{◌≡◌, subst}
 use Prim.Native.Nat.{ℕ, ◌<◌}
-use lib.ListN.{length}
 use Rattle.std.specs.Prelude.{Option}
 use Rattle.isa.proofs.Registers.{fields_registers}
 use Rattle.effect.specs.State.{state_words}
@@ -19,9 +18,27 @@ use Rattle.commit.specs.Inner.{entry_inputs, action_effect, Storable, Fits, Comm
 use Rattle.commit.specs.declared.Done.{Done}
 use Rattle.commit.proofs.Commits.{fits_as, performed_as}
 use Rattle.semantics.specs.Meaning.{meaning}
+use Rattle.semantics.proofs.Groups.{is_branch, is_nop_movhi, is_control, is_load, is_add_immediate, is_immediate, is_compare_immediate, is_store, is_arithmetic, is_logic, is_compare, is_cache, is_product}
 use Rattle.lawful.specs.Inner.{Sound, SoundStore, stores_none, stores_some}
 use Rattle.lawful.proofs.Sound.{meaning_sound}
 use Rattle.exec.specs.Inner.{Performs}
+
+-- what each group of kinds means
+pub ruleset meant = (
+  is_branch,
+  is_nop_movhi,
+  is_control,
+  is_load,
+  is_add_immediate,
+  is_immediate,
+  is_compare_immediate,
+  is_store,
+  is_arithmetic,
+  is_logic,
+  is_compare,
+  is_cache,
+  is_product,
+)
 
 -- what a sound effect writes can be committed
 sound_storable : {board : Board} {len : ℕ} {s : Option Store} → SoundStore board len s → Storable len s
@@ -40,16 +57,12 @@ module _ (board : Board) (mem own : List ℕ) (core kind entry : ℕ) {x : Input
   unfolding entry_inputs
   committable a h = fits_as (acts a h) (sound_fits (meaning_sound board mem (entry_inputs own core entry) (fields_registers entry).d kind))
 
-  pub performs : (a : Action) → effect_by x a ≡ meaning board mem kind x → {mem' own' : List ℕ} {r : Done} → Commits board.vectors mem own core entry a mem' own' r
-      → Performs board mem own core kind entry mem' own' r
-  performs a h c = performed_as (acts a h) c
-
   -- the same of what is written by an instruction that goes on
   pub writable : (w : Written) → goes_on x w ≡ meaning board mem kind x → w.place < state_words
   unfolding effect_by advances
   writable w h = (committable (Advance w) h).place_lt
 
-  pub writes : (w : Written) → goes_on x w ≡ meaning board mem kind x → {mem' own' : List ℕ} {r : Done} → Commits board.vectors mem own core entry (Advance w) mem' own' r
+  -- what commits it performs the kind
+  pub performs : (a : Action) → effect_by x a ≡ meaning board mem kind x → {mem' own' : List ℕ} {r : Done} → Commits board.vectors mem own core entry a mem' own' r
       → Performs board mem own core kind entry mem' own' r
-  unfolding effect_by
-  writes w h c = performs (Advance w) h c
+  performs a h c = performed_as (acts a h) c

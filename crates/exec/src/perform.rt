@@ -1,3 +1,4 @@
+#![tactic(auto, using(crate::proofs::Performs::meant), unfolding(effect::specs::Inner::effect_by))]
 // What an entry does to memory and its core's own state, by group of kinds. Each group reads its inputs itself, so that nothing is read that
 // its instructions do not use.
 ghost use Rattle.std.specs.Prelude.{◌≤◌, ◌<◌};

@@ -2,7 +2,7 @@ use mathlib.Core.Path.{◌∙◌}
 use native.Mathlib.Omega.{arith}
 use Rattle.effect.specs.Board.{board_of_code}
 use Rattle.semantics.proofs.Groups.{is_add_immediate, is_immediate, is_compare_immediate}
-use Rattle.exec.proofs.Performs.{committable, performs, writable, writes}
+use Rattle.exec.proofs.Performs.{committable, writable}
 use Rattle.exec.proofs.perform.immediate.Goals as goal
 
 pub advance-requires : goal.advance-requires
@@ -16,15 +16,3 @@ write-requires c =
 pub write-requires-else-kind-lt-COMPARE_IMMEDIATE : goal.write-requires-else-kind-lt-COMPARE_IMMEDIATE
 write-requires-else-kind-lt-COMPARE_IMMEDIATE c =
     writable (board_of_code c.args.board) c.args.memory.now _ _ _ _ c.inputs_at-else-kind-lt-COMPARE_IMMEDIATE.ensures _ (c.compare_immediate-w.ensures ∙ is_compare_immediate _ _ _ _ (omega arith, omega arith))
-
-pub returns-then-kind-lt-IMMEDIATE : goal.returns-then-kind-lt-IMMEDIATE
-returns-then-kind-lt-IMMEDIATE c =
-    performs _ _ _ _ _ _ c.inputs_at.ensures _ (c.add_immediate-action.ensures ∙ is_add_immediate _ _ _ _ (omega arith, omega arith)) c.advance.ensures
-
-pub returns-else-kind-lt-IMMEDIATE : goal.returns-else-kind-lt-IMMEDIATE
-returns-else-kind-lt-IMMEDIATE c =
-    writes _ _ _ _ _ _ c.inputs_at-else-kind-lt-IMMEDIATE.ensures _ (c.immediate-w.ensures ∙ is_immediate _ _ _ _ (omega arith, omega arith)) c.write.ensures
-
-pub returns-else-kind-lt-COMPARE_IMMEDIATE : goal.returns-else-kind-lt-COMPARE_IMMEDIATE
-returns-else-kind-lt-COMPARE_IMMEDIATE c =
-    writes _ _ _ _ _ _ c.inputs_at-else-kind-lt-COMPARE_IMMEDIATE.ensures _ (c.compare_immediate-w.ensures ∙ is_compare_immediate _ _ _ _ (omega arith, omega arith)) c.write-else-kind-lt-COMPARE_IMMEDIATE.ensures

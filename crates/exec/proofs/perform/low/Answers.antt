@@ -2,7 +2,7 @@ use mathlib.Core.Path.{◌∙◌}
 use native.Mathlib.Omega.{arith}
 use Rattle.effect.specs.Board.{board_of_code}
 use Rattle.semantics.proofs.Groups.{is_branch, is_nop_movhi, is_control, is_load}
-use Rattle.exec.proofs.Performs.{committable, performs}
+use Rattle.exec.proofs.Performs.{committable}
 use Rattle.exec.proofs.perform.low.Goals as goal
 
 pub jump-requires : goal.jump-requires
@@ -20,19 +20,3 @@ jump-requires-then-kind-lt-LOAD c =
 pub advance-requires-else-kind-lt-LOAD : goal.advance-requires-else-kind-lt-LOAD
 advance-requires-else-kind-lt-LOAD c =
     committable (board_of_code c.args.board) c.args.memory.now _ _ _ _ c.inputs_at-else-kind-lt-LOAD.ensures _ (c.load-action.ensures ∙ is_load _ _ _ _ (omega arith, omega arith))
-
-pub returns-then-kind-lt-NOP_MOVHI : goal.returns-then-kind-lt-NOP_MOVHI
-returns-then-kind-lt-NOP_MOVHI c =
-    performs _ _ _ _ _ _ c.inputs_at.ensures _ (c.branch-action.ensures ∙ is_branch _ _ _ _ (omega arith)) c.jump.ensures
-
-pub returns-else-kind-lt-NOP_MOVHI : goal.returns-else-kind-lt-NOP_MOVHI
-returns-else-kind-lt-NOP_MOVHI c =
-    performs _ _ _ _ _ _ c.inputs_at-else-kind-lt-NOP_MOVHI.ensures _ (c.nop_movhi-action.ensures ∙ is_nop_movhi _ _ _ _ (omega arith, omega arith)) c.advance.ensures
-
-pub returns-then-kind-lt-LOAD : goal.returns-then-kind-lt-LOAD
-returns-then-kind-lt-LOAD c =
-    performs _ _ _ _ _ _ c.inputs_at-then-kind-lt-LOAD.ensures _ (c.control-action.ensures ∙ is_control _ _ _ _ (omega arith, omega arith)) c.jump-then-kind-lt-LOAD.ensures
-
-pub returns-else-kind-lt-LOAD : goal.returns-else-kind-lt-LOAD
-returns-else-kind-lt-LOAD c =
-    performs _ _ _ _ _ _ c.inputs_at-else-kind-lt-LOAD.ensures _ (c.load-action.ensures ∙ is_load _ _ _ _ (omega arith, omega arith)) c.advance-else-kind-lt-LOAD.ensures
