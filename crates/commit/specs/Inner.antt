@@ -1,5 +1,5 @@
 -- Helper of the code. What the parts of a commit promise one another, and what an instruction tells the run; the papers' commit is Commit.antt.
-use Rattle.std.specs.Prelude.{List, ◌≡◌, ℕ, ◌+◌, ◌<◌, ◌≤◌, length, get_or, Option, option_map, IfSome}
+use Rattle.std.specs.Prelude.{List, ◌≡◌, ℕ, ◌+◌, ◌<◌, ◌≤◌, get_or, Option, option_map, IfSome}
 use Rattle.isa.specs.Entry.{fields_of}
 use Rattle.isa.specs.declared.entry.Fields.{Fields}
 use Rattle.memory.specs.Memory.{Width}
@@ -35,10 +35,6 @@ entry_inputs own core entry = own_inputs own core (fields_of entry)
 abbrev pub action_effect : List ℕ → ℕ → ℕ → Action → Effect
 action_effect own core entry a = effect_by (entry_inputs own core entry) a
 
--- it has the words of a state, and the core is one of four at most
-abbrev pub OwnState : List ℕ → ℕ → Type 0
-OwnState own core = (state_words ≤ length own) × (core < 4)
-
 -- the effect e turned own into own', and ended in o
 pub record Owned (vectors own : List ℕ) (e : Effect) (own' : List ℕ) (o : Outcome) : Type 0 where
   pub left : own' ≡ own_state vectors own 0 e
@@ -61,11 +57,7 @@ pub record Fits (len : ℕ) (e : Effect) : Type 0 where
   pub place_lt : e.place < state_words
   pub storable : Storable len e.store
 
--- an entry's action
-abbrev pub Committable : List ℕ → List ℕ → ℕ → ℕ → Action → Type 0
-Committable mem own core entry a = OwnState own core × Fits (length mem) (action_effect own core entry a)
-
--- its commit, with the outcome for an answer, and with what the run is told
+-- the commit of an entry's action, with the outcome for an answer, and with what the run is told
 abbrev pub Acted : List ℕ → List ℕ → List ℕ → ℕ → ℕ → Action → List ℕ → List ℕ → Outcome → Type 0
 Acted vectors mem own core entry a mem' own' o =
     (mem' ≡ memory_after mem (action_effect own core entry a)) × Owned vectors own (action_effect own core entry a) own' o

@@ -1,9 +1,8 @@
 // What an instruction reads of its core's state.
-ghost use Rattle.std.specs.Prelude.{◌≡◌, ◌+◌, ◌*◌, ◌≤◌, ◌<◌, length};
+ghost use Rattle.std.specs.Prelude.{◌≡◌};
 ghost use Rattle.isa.specs.Register.{Register, Registers};
-ghost use Rattle.effect.specs.State.{state_words};
-ghost use Rattle.commit.specs.Commit.{inputs, no_fields};
-ghost use Rattle.commit.specs.Inner.{own_word, own_inputs, entry_inputs, OwnState};
+ghost use Rattle.commit.specs.Commit.{no_fields};
+ghost use Rattle.commit.specs.Inner.{own_word, own_inputs, entry_inputs};
 
 use effect::state;
 use effect::types::{Flow, Inputs, Link};
@@ -11,18 +10,16 @@ use isa::entry::Fields;
 use product::Accumulator;
 
 // The value of a register.
-fn register(own: &[u32], n: u8) -> u32
-    requires state_words_in_bounds { state_words ≤ length own.now }
-    requires register { Register n }
+fn register(own: &[u32; state::STATE_WORDS], n: u8) -> u32
+    requires { Register n }
     ensures { result ≡ own_word own.now n }
 {
     own[n as usize]
 }
 
 // What an instruction with the fields f reads of its core's own state.
-fn inputs_of(own: &[u32], core: usize, f: Fields) -> Inputs
-    requires own_state { OwnState own.now core }
-    requires registers { Registers f }
+fn inputs_of(own: &[u32; state::STATE_WORDS], core: u8, f: Fields) -> Inputs
+    requires { Registers f }
     ensures { result ≡ own_inputs own.now core f }
 {
     Inputs {
@@ -55,22 +52,17 @@ fn inputs_of(own: &[u32], core: usize, f: Fields) -> Inputs
 
 // The same for the instruction of an entry.
 #[tactic(auto, unfolding(crate::specs::Inner::entry_inputs))]
-pub fn inputs_at(own: &[u32], core: usize, entry: u64) -> Inputs
-    requires { OwnState own.now core }
+pub fn inputs_at(own: &[u32; state::STATE_WORDS], core: u8, entry: u64) -> Inputs
     ensures { result ≡ entry_inputs own.now core entry }
 {
     inputs_of(own, core, isa::entry::unpack(entry))
 }
 
 // What a core's state says by itself: the inputs of an instruction that has no fields.
-pub fn state_at(states: &[u32], core: usize) -> Inputs
-    requires state_words_in_bounds { core * state_words + state_words ≤ length states.now }
-    requires core_bound { core < 4 }
-    ensures { result ≡ inputs states.now core no_fields }
+pub fn state_at(own: &[u32; state::STATE_WORDS], core: u8) -> Inputs
+    ensures { result ≡ own_inputs own.now core no_fields }
 {
-    let base = core * state::STATE_WORDS;
-    let end = base + state::STATE_WORDS;
-    inputs_of(&states[base..end], core, no_fields())
+    inputs_of(own, core, no_fields())
 }
 
 fn no_fields() -> Fields

@@ -1,17 +1,18 @@
 #![tactic(auto)]
 // Committing what an instruction does, in place: its core's own state, memory, and every core's link.
-ghost use Rattle.std.specs.Prelude.{◌≡◌, ◌≤◌, ◌<◌, length};
-ghost use Rattle.isa.specs.Vectors.{vector_count};
+ghost use Rattle.std.specs.Prelude.{◌≡◌, ◌<◌, length};
 ghost use Rattle.effect.specs.State.{state_words};
 ghost use Rattle.effect.specs.Inner.{effect_by};
 ghost use Rattle.effect.specs.declared.types.Inputs.{Inputs};
 ghost use Rattle.commit.specs.Commit.{stored_by};
-ghost use Rattle.commit.specs.Inner.{tells, OwnState, Storable, Fits, Performed, Committable, Acted, Commits};
+ghost use Rattle.commit.specs.Inner.{tells, action_effect, Storable, Fits, Performed, Acted, Commits};
 
 use crate::inputs::inputs_at;
 use effect::effects;
+use effect::state::STATE_WORDS;
 use effect::types::{Action, Effect, Outcome, Store, Written};
 use memory::Width;
+use isa::vectors::COUNT;
 
 pub mod inputs;
 pub mod links;
@@ -53,10 +54,8 @@ fn done_by(outcome: Outcome, action: Action) -> Done
 
 // An effect, and what it tells the run.
 #[tactic(auto, unfolding(crate::specs::Commit::memory_after))]
-fn settle(vectors: &[u32], memory: &mut [u8], own: &mut [u32], e: Effect) -> Done
-    requires state_words_in_bounds { state_words ≤ length own.old }
-    requires fits { Fits (length memory.old) e }
-    requires vectors_len { length vectors.now ≡ vector_count }
+fn settle(vectors: &[u32; COUNT], memory: &mut [u8], own: &mut [u32; STATE_WORDS], e: Effect) -> Done
+    requires { Fits (length memory.old) e }
     ensures { Performed vectors.now memory.old own.old e memory.new own.new result }
 {
     let outcome = own_state::commit_state(vectors, own, e);
@@ -68,15 +67,14 @@ fn settle(vectors: &[u32], memory: &mut [u8], own: &mut [u32], e: Effect) -> Don
 // Any action, and how it ends. It stands by itself, so that the frequent ones do not pay for the others.
 #[tactic(auto, unfolding(crate::specs::Commit::memory_after))]
 fn other(
-    vectors: &[u32],
+    vectors: &[u32; COUNT],
     memory: &mut [u8],
-    own: &mut [u32],
-    core: usize,
+    own: &mut [u32; STATE_WORDS],
+    core: u8,
     entry: u64,
     action: Action,
 ) -> Outcome
-    requires committable { Committable memory.old own.old core entry action }
-    requires vectors_len { length vectors.now ≡ vector_count }
+    requires { Fits (length memory.old) (action_effect own.old core entry action) }
     ensures { Acted vectors.now memory.old own.old core entry action memory.new own.new result }
 {
     let x = inputs_at(own, core, entry);
@@ -88,16 +86,14 @@ fn other(
 // What is written by an instruction that goes on. Each of these reads its inputs itself, so that nothing is read that it does not use.
 #[tactic(auto, unfolding(effect::specs::Inner::effect_by, effect::specs::Effect::advances))]
 pub fn write(
-    vectors: &[u32],
+    vectors: &[u32; COUNT],
     memory: &mut [u8],
-    own: &mut [u32],
-    core: usize,
+    own: &mut [u32; STATE_WORDS],
+    core: u8,
     entry: u64,
     w: Written,
 ) -> Done
-    requires own_state { OwnState own.old core }
-    requires place_lt_state_words { w.place < state_words }
-    requires vectors_len { length vectors.now ≡ vector_count }
+    requires { w.place < state_words }
     ensures { Commits vectors.now memory.old own.old core entry (Action.Advance w) memory.new own.new result }
 {
     settle(
@@ -111,15 +107,14 @@ pub fn write(
 // An action that is likely to go on.
 #[tactic(auto, unfolding(effect::specs::Inner::effect_by, effect::specs::Effect::advances))]
 pub fn advance(
-    vectors: &[u32],
+    vectors: &[u32; COUNT],
     memory: &mut [u8],
-    own: &mut [u32],
-    core: usize,
+    own: &mut [u32; STATE_WORDS],
+    core: u8,
     entry: u64,
     action: Action,
 ) -> Done
-    requires committable { Committable memory.old own.old core entry action }
-    requires vectors_len { length vectors.now ≡ vector_count }
+    requires { Fits (length memory.old) (action_effect own.old core entry action) }
     ensures { Commits vectors.now memory.old own.old core entry action memory.new own.new result }
 {
     match action {
@@ -130,15 +125,14 @@ pub fn advance(
 
 // An action that is likely to be a jump.
 pub fn jump(
-    vectors: &[u32],
+    vectors: &[u32; COUNT],
     memory: &mut [u8],
-    own: &mut [u32],
-    core: usize,
+    own: &mut [u32; STATE_WORDS],
+    core: u8,
     entry: u64,
     action: Action,
 ) -> Done
-    requires committable { Committable memory.old own.old core entry action }
-    requires vectors_len { length vectors.now ≡ vector_count }
+    requires { Fits (length memory.old) (action_effect own.old core entry action) }
     ensures { Commits vectors.now memory.old own.old core entry action memory.new own.new result }
 {
     match action {
@@ -154,15 +148,14 @@ pub fn jump(
 
 // An action that is likely to store.
 pub fn save(
-    vectors: &[u32],
+    vectors: &[u32; COUNT],
     memory: &mut [u8],
-    own: &mut [u32],
-    core: usize,
+    own: &mut [u32; STATE_WORDS],
+    core: u8,
     entry: u64,
     action: Action,
 ) -> Done
-    requires committable { Committable memory.old own.old core entry action }
-    requires vectors_len { length vectors.now ≡ vector_count }
+    requires { Fits (length memory.old) (action_effect own.old core entry action) }
     ensures { Commits vectors.now memory.old own.old core entry action memory.new own.new result }
 {
     match action {

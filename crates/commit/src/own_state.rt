@@ -1,6 +1,5 @@
 // A core's own state after an instruction.
-ghost use Rattle.std.specs.Prelude.{◌≡◌, ◌≤◌, ◌<◌, length};
-ghost use Rattle.isa.specs.Vectors.{vector_count};
+ghost use Rattle.std.specs.Prelude.{◌≡◌, ◌<◌};
 ghost use Rattle.effect.specs.State.{state_words};
 ghost use Rattle.commit.specs.Commit.{put_value, put_flow, put_status, put_accumulated, put_exception};
 ghost use Rattle.commit.specs.Inner.{Owned};
@@ -12,9 +11,8 @@ use product::Accumulator;
 
 // The register, or special-purpose register, that an effect writes; r0 is dropped.
 #[tactic(auto, unfolding(crate::specs::Commit::put_value))]
-fn put_value(own: &mut [u32], e: Effect)
-    requires state_words_in_bounds { state_words ≤ length own.old }
-    requires place_lt_state_words { e.place < state_words }
+fn put_value(own: &mut [u32; state::STATE_WORDS], e: Effect)
+    requires { e.place < state_words }
     ensures { own.new ≡ put_value own.old 0 e }
 {
     if e.place != 0 {
@@ -23,8 +21,7 @@ fn put_value(own: &mut [u32], e: Effect)
 }
 
 #[tactic(auto, unfolding(crate::specs::Commit::put_flow))]
-fn put_flow(own: &mut [u32], e: Effect)
-    requires { state_words ≤ length own.old }
+fn put_flow(own: &mut [u32; state::STATE_WORDS], e: Effect)
     ensures { own.new ≡ put_flow own.old 0 e }
 {
     own[state::PC] = e.flow.pc;
@@ -33,8 +30,7 @@ fn put_flow(own: &mut [u32], e: Effect)
 }
 
 #[tactic(auto, unfolding(crate::specs::Commit::put_status))]
-fn put_status(own: &mut [u32], e: Effect)
-    requires { state_words ≤ length own.old }
+fn put_status(own: &mut [u32; state::STATE_WORDS], e: Effect)
     ensures { own.new ≡ put_status own.old 0 e }
 {
     own[state::SR] = e.sr;
@@ -44,8 +40,7 @@ fn put_status(own: &mut [u32], e: Effect)
 }
 
 #[tactic(auto, unfolding(crate::specs::Commit::put_accumulated))]
-fn put_accumulator(own: &mut [u32], m: Accumulator)
-    requires { state_words ≤ length own.old }
+fn put_accumulator(own: &mut [u32; state::STATE_WORDS], m: Accumulator)
     ensures { own.new ≡ put_accumulated (Some m) own.old 0 }
 {
     own[state::MACHI] = m.high;
@@ -54,8 +49,7 @@ fn put_accumulator(own: &mut [u32], m: Accumulator)
 
 // MACHI and MACLO, if they are not kept.
 #[tactic(auto, unfolding(crate::specs::Commit::put_accumulated))]
-fn put_accumulated(own: &mut [u32], accumulated: Option<Accumulator>)
-    requires { state_words ≤ length own.old }
+fn put_accumulated(own: &mut [u32; state::STATE_WORDS], accumulated: Option<Accumulator>)
     ensures { own.new ≡ put_accumulated accumulated own.old 0 }
 {
     if let Some(m) = accumulated {
@@ -65,9 +59,7 @@ fn put_accumulated(own: &mut [u32], accumulated: Option<Accumulator>)
 
 // An exception's vector, EPCR, EEAR and ESR.
 #[tactic(auto, unfolding(crate::specs::Commit::put_exception))]
-fn put_raised(vectors: &[u32], own: &mut [u32], x: Exception)
-    requires state_words_in_bounds { state_words ≤ length own.old }
-    requires vectors_len { length vectors.now ≡ vector_count }
+fn put_raised(vectors: &[u32; vectors::COUNT], own: &mut [u32; state::STATE_WORDS], x: Exception)
     ensures { own.new ≡ put_exception vectors.now (Err x) own.old 0 }
 {
     let cause = x.cause;
@@ -79,9 +71,7 @@ fn put_raised(vectors: &[u32], own: &mut [u32], x: Exception)
 
 // What is left of an exception, if the step ends in one.
 #[tactic(auto, unfolding(crate::specs::Commit::put_exception))]
-fn put_outcome(vectors: &[u32], own: &mut [u32], outcome: Outcome)
-    requires state_words_in_bounds { state_words ≤ length own.old }
-    requires vectors_len { length vectors.now ≡ vector_count }
+fn put_outcome(vectors: &[u32; vectors::COUNT], own: &mut [u32; state::STATE_WORDS], outcome: Outcome)
     ensures { own.new ≡ put_exception vectors.now outcome own.old 0 }
 {
     if let Err(x) = outcome {
@@ -91,10 +81,8 @@ fn put_outcome(vectors: &[u32], own: &mut [u32], outcome: Outcome)
 
 // The core's own state; answers how the step ends.
 #[tactic(auto, unfolding(crate::specs::Commit::own_state))]
-pub fn commit_state(vectors: &[u32], own: &mut [u32], e: Effect) -> Outcome
-    requires state_words_in_bounds { state_words ≤ length own.old }
-    requires place_lt_state_words { e.place < state_words }
-    requires vectors_len { length vectors.now ≡ vector_count }
+pub fn commit_state(vectors: &[u32; vectors::COUNT], own: &mut [u32; state::STATE_WORDS], e: Effect) -> Outcome
+    requires { e.place < state_words }
     ensures { Owned vectors.now own.old e own.new result }
 {
     put_value(own, e);

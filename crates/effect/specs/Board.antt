@@ -8,6 +8,6 @@ pub record Board : Type 0 where
   pub limit : ℕ
   pub vectors : List ℕ
 
--- the code has the list beside the numbers, lent
-abbrev pub board_with : code.Board → List ℕ → Board
-board_with b vectors = record { cores = b.cores; limit = b.limit; vectors = vectors }
+-- of the code's board, to which the list is lent
+abbrev pub board_of_code : code.Board → Board
+board_of_code b = record { cores = b.cores; limit = b.limit; vectors = b.vectors.now }

@@ -1,5 +1,5 @@
 -- A core's state, document 01's sheet: "What is lent"; document 02, notes 2, 4 and 8.
-use Rattle.std.specs.Prelude.{Bool, true, ◌&&◌, ◌||◌, not, List, [], ◌∷◌, ℕ, ◌%◌, eqb, leb, ltb}
+use Rattle.std.specs.Prelude.{Bool, true, ◌&&◌, ◌||◌, not, List, [], ◌∷◌, ◌++◌, take, drop, ℕ, ◌*◌, ◌%◌, eqb, leb, ltb}
 use Rattle.arith.specs.Status.{allowed}
 use Rattle.effect.specs.Board.{Board}
 
@@ -50,6 +50,13 @@ picmr_at = 44
 
 abbrev pub picsr_at : ℕ
 picsr_at = 45
+
+-- a core's words among those of all, and all with `own` in their place
+abbrev pub own_words : List ℕ → ℕ → List ℕ
+own_words s core = take state_words (drop (core * state_words) s)
+
+abbrev pub with_own_words : List ℕ → ℕ → List ℕ → List ℕ
+with_own_words s core own = take (core * state_words) s ++ (own ++ drop state_words (drop (core * state_words) s))
 
 abbrev pub halted : ℕ
 halted = 0

@@ -1,4 +1,7 @@
 // A core's state (document 01's sheet): 32 registers, then these places.
+ghost use Rattle.std.specs.Prelude.{◌≡◌, ◌+◌, ◌*◌, ◌≤◌, length};
+ghost use Rattle.effect.specs.State.{state_words, own_words};
+
 pub const STATE_WORDS: usize = 46;
 
 pub const PC: usize = 32;
@@ -35,3 +38,12 @@ pub const HALTED: u32 = 0;
 pub const LINKED: u32 = 1;
 
 pub const RUNNING: u32 = 3;
+
+// A core's own words among those of all.
+pub fn own(states: &[u32], core: usize) -> &[u32; STATE_WORDS]
+    requires { core * state_words + state_words ≤ length states.now }
+    ensures { result.now ≡ own_words states.now core }
+{
+    let (_, rest) = states.split_at(core * STATE_WORDS);
+    rest.first_chunk().unwrap()
+}

@@ -1,5 +1,5 @@
 // What an instruction reads and what it does, by value.
-use isa::vectors::Cause;
+use isa::vectors::{COUNT, Cause};
 use product::Accumulator;
 
 // Where execution goes on: the next instruction, whether it is in a delay slot, and where it goes after the slot.
@@ -36,12 +36,13 @@ pub struct Exception {
 // How a step ends: in a completed instruction, or in one exception.
 pub type Outcome = Result<(), Exception>;
 
-// The numbers that every instruction of a run is given beside its core's state: how many cores there are, and how many bytes at the start of memory are
-// read-only. The list of vectors, which it is given too, is lent beside them: by value it would make every step dearer.
+// What every instruction of a run is given beside its core's state: how many cores there are, how many bytes at the start of memory are read-only, and the
+// list of vectors, lent: by value it would make every step dearer.
 #[derive(Clone, Copy)]
-pub struct Board {
+pub struct Board<'a> {
     pub cores: u32,
     pub limit: u32,
+    pub vectors: &'a [u32; COUNT],
 }
 
 // An instruction's fields, its registers' values, and its core's state before it.

@@ -1,60 +1,50 @@
 -- An entry performed on a core's own state is the instruction of that core among all states. Assumes nothing.
-use mathlib.Core.Bool.{Bool, true, false}
+use mathlib.Core.Bool.{true, false}
 use mathlib.Core.List.{List}
-use mathlib.Core.Path.{◌≡◌, sym, ap, ap₂, subst, ◌∙◌}
+use mathlib.Core.Path.{◌≡◌, refl, sym, ap, ap₂, subst, ◌∙◌}
 use Prim.Native.Nat.{ℕ, ◌+◌, ◌*◌, ◌/◌, ◌^◌, ◌<◌, ◌≤◌}
 use native.Mathlib.Omega.{arith}
-use borrow.Rule.Slice.PartMut.{put_mid}
-use lib.ListN.{length, take, drop}
+use lib.ListN.{length}
+use Rattle.std.specs.Prelude.{Option, Some, None, option_map, is_some}
 use Rattle.bits.specs.Word.{field}
 use Rattle.isa.specs.Entry.{fields_of}
+use Rattle.isa.specs.Register.{Registers}
+use Rattle.isa.specs.declared.vectors.Cause.{Cause}
 use Rattle.isa.proofs.Registers.{fields_registers}
-use Rattle.effect.specs.State.{state_words}
+use Rattle.effect.specs.State.{state_words, own_words, with_own_words}
+use Rattle.effect.specs.Effect.{no_store, Outcome, raises, faults}
 use Rattle.effect.specs.declared.types.Inputs.{Inputs}
 use Rattle.effect.specs.Board.{Board}
 use Rattle.effect.specs.declared.types.Effect.{Effect}
-use Rattle.commit.specs.Commit.{own_state, clear_links, core_count, writes_memory, touched, states_after}
-use Rattle.commit.specs.Inner.{entry_inputs, Performed}
+use Rattle.effect.specs.declared.types.Store.{Store}
+use Rattle.commit.specs.Commit.{inputs, no_fields, own_state, clear_links, core_count, writes_memory, touched, word_of, states_after}
+use Rattle.commit.specs.Inner.{tells, own_inputs, entry_inputs, Owned, Performed}
 use Rattle.commit.specs.declared.Done.{Done}
-use Rattle.commit.proofs.Commits.{performed_as}
-use Rattle.commit.proofs.Own.{mid_inputs, mid_committed}
+use Rattle.commit.proofs.Commits.{owned_as, performed_as, kept}
+use Rattle.commit.proofs.Own.{own_inputs_at, own_committed}
 use Rattle.semantics.specs.Meaning.{meaning, effect_of}
+use Rattle.lawful.proofs.Commit.{length_own}
 use Rattle.lawful.proofs.Sound.{meaning_sound}
 use Rattle.exec.specs.Inner.{Executed}
-
-module _ (board : Board) (mem s : List ℕ) (core entry : ℕ) (h : core * state_words + state_words ≤ length s) (f : entry < 2 ^ 64) (n : ℕ) (q : n ≡ state_words) where
-  -- the part, and the effect of the entry on it
-  abbrev own : List ℕ
-  own = take n (drop (core * state_words) s)
-
-  abbrev performs : Effect
-  performs = meaning board mem (entry / 2 ^ 56) (entry_inputs own core entry)
-
-  performs_as : performs ≡ effect_of board mem s core entry
-  unfolding entry_inputs
-  performs_as =
-      let k : entry / 2 ^ 56 ≡ field entry 56 8 = omega (arith, f) in
-      ap₂ (λ (k : ℕ) (x : Inputs). meaning board mem k x) k (mid_inputs s core h n q (fields_of entry) (fields_registers entry))
-
-  module _ {mem' own' : List ℕ} {r : Done} (p : Performed board.vectors mem own performs mem' own' r) where
-    pub performed_here : Performed board.vectors mem own (effect_of board mem s core entry) mem' own' r
-    performed_here = performed_as performs_as p
-
-    pub committed_here : put_mid (core * state_words) n s own' ≡ own_state board.vectors s core (effect_of board mem s core entry)
-    unfolding entry_inputs
-    committed_here =
-        let sound = meaning_sound board mem (entry_inputs own core entry) (fields_registers entry).d (entry / 2 ^ 56) in
-        mid_committed s core h n q board.vectors performs sound.place_lt p.left ∙ ap (own_state board.vectors s core) performs_as
 
 -- the same effect under another name
 pub executed_as : {e e' : Effect} → e ≡ e' → {vectors mem s mem' s' : List ℕ} {core : ℕ} {r : Done} → Executed vectors mem s core e mem' s' r → Executed vectors mem s core e' mem' s' r
 executed_as p {vectors} {mem} {s} {mem'} {s'} {core} {r} x = subst (λ (f : Effect). Executed vectors mem s core f mem' s' r) p x
 
+-- what the run is told of a store
+pub none_told : (o : Option Store) → option_map (λ (s : Store). s.address) o ≡ None → is_some o ≡ false
+none_told None h = refl
+none_told (Some s) h = cc
+
+pub some_told : (o : Option Store) {at : ℕ} → option_map (λ (s : Store). s.address) o ≡ Some at → (is_some o ≡ true) × (at / 4 ≡ word_of o)
+some_told None h = cc
+some_told (Some s) {at} h = let e : s.address ≡ at = cc in (refl, rw e)
+
 -- ---- every core's state
 
 -- and every core's link: s₁ is the states with the core's own committed
 module _ {vectors mem own mem' own' : List ℕ} (s : List ℕ) {s₁ : List ℕ} (core : ℕ) {e : Effect} {r : Done} (p : Performed vectors mem own e mem' own' r) (q : s₁ ≡ own_state vectors s core e) where
-  stored_as : {b : Bool} → r.stored ≡ b → writes_memory e ≡ b
+  stored_as : {o : Option ℕ} → r.stored ≡ o → option_map (λ (s : Store). s.address) e.store ≡ o
   stored_as h = sym (ap (λ (d : Done). d.stored) p.done) ∙ h
 
   after_none : writes_memory e ≡ false → own_state vectors s core e ≡ states_after vectors s core e
@@ -65,16 +55,62 @@ module _ {vectors mem own mem' own' : List ℕ} (s : List ℕ) {s₁ : List ℕ}
   unfolding states_after
   after_store h = simp h
 
-  pub executed_kept : r.stored ≡ false → Executed vectors mem s core e mem' s₁ r
-  executed_kept h = record { memory = p.memory; states = q ∙ after_none (stored_as h); done = p.done }
+  pub executed_kept : r.stored ≡ None → Executed vectors mem s core e mem' s₁ r
+  executed_kept h = record { memory = p.memory; states = q ∙ after_none (none_told e.store (stored_as h)); done = p.done }
 
-  pub executed_stored : r.stored ≡ true → length s₁ ≡ length s → {s' : List ℕ} → s' ≡ clear_links (core_count s₁) s₁ (r.address / 4 * 4) → Executed vectors mem s core e mem' s' r
-  executed_stored h l k =
+  pub executed_stored : {at : ℕ} → r.stored ≡ Some at → {s' : List ℕ} → s' ≡ clear_links (core_count s₁) s₁ (at / 4 * 4) → Executed vectors mem s core e mem' s' r
+  executed_stored {at} h k =
+      let t = some_told e.store (stored_as h) in
+      let l = ap length q ∙ length_own vectors s core e in
       record {
         memory = p.memory;
         states =
-            k ∙ ap₂ (λ n (t : List ℕ). clear_links (n / state_words) t (r.address / 4 * 4)) l q
-            ∙ ap (λ (d : Done). clear_links (core_count s) (own_state vectors s core e) (d.address / 4 * 4)) p.done
-            ∙ after_store (stored_as h);
+            k ∙ ap₂ (λ n (t : List ℕ). clear_links (n / state_words) t (at / 4 * 4)) l q
+            ∙ ap (λ w. clear_links (core_count s) (own_state vectors s core e) (w * 4)) t.1
+            ∙ after_store t.0;
         done = p.done;
       }
+
+-- ---- on a core's own words: own is those words, own' what is left of them, and s₁ the states with them
+
+module _ (s : List ℕ) (core : ℕ) (h : core * state_words + state_words ≤ length s) {own own' s₁ : List ℕ} (o : own ≡ own_words s core) (w : s₁ ≡ with_own_words s core own') where
+  module _ (board : Board) (mem : List ℕ) (entry : ℕ) (f : entry < 2 ^ 64) {mem' : List ℕ} {r : Done} (p : Performed board.vectors mem own (meaning board mem (entry / 2 ^ 56) (entry_inputs own core entry)) mem' own' r) where
+    read_as : entry_inputs own core entry ≡ inputs s core (fields_of entry)
+    unfolding entry_inputs
+    read_as = ap (λ (own : List ℕ). entry_inputs own core entry) o ∙ own_inputs_at s core h (fields_of entry) (fields_registers entry)
+
+    performs_as : meaning board mem (entry / 2 ^ 56) (entry_inputs own core entry) ≡ effect_of board mem s core entry
+    performs_as =
+        let k : entry / 2 ^ 56 ≡ field entry 56 8 = omega (arith, f) in
+        ap₂ (λ (k : ℕ) (x : Inputs). meaning board mem k x) k read_as
+
+    performed_here : Performed board.vectors mem own (effect_of board mem s core entry) mem' own' r
+    performed_here = performed_as performs_as p
+
+    committed_here : s₁ ≡ own_state board.vectors s core (effect_of board mem s core entry)
+    unfolding inputs
+    committed_here =
+        let sound = meaning_sound board mem (inputs s core (fields_of entry)) (fields_registers entry).d (field entry 56 8) in
+        w ∙ own_committed s core h board.vectors (effect_of board mem s core entry) sound.place_lt (performed_here.left ∙ ap (λ (own : List ℕ). own_state board.vectors own 0 (effect_of board mem s core entry)) o)
+
+    -- an entry, with every link
+    pub kept_here : r.stored ≡ None → Executed board.vectors mem s core (effect_of board mem s core entry) mem' s₁ r
+    kept_here = executed_kept s core performed_here committed_here
+
+    pub stored_here : {at : ℕ} → r.stored ≡ Some at → {s' : List ℕ} → s' ≡ clear_links (core_count s₁) s₁ (at / 4 * 4)
+        → Executed board.vectors mem s core (effect_of board mem s core entry) mem' s' r
+    stored_here = executed_stored s core performed_here committed_here
+
+  -- an exception in an instruction's place
+  pub raised_here : (cause : Cause) {vectors : List ℕ} {eear eear' : ℕ} {r : Outcome} → Owned vectors own (faults (own_inputs own core no_fields) cause eear) own' r → eear ≡ eear'
+      → (mem : List ℕ) → Executed vectors mem s core (faults (inputs s core no_fields) cause eear') mem s₁ (tells r no_store)
+  unfolding raises
+  raised_here cause {vectors} {eear} {eear'} p q =
+      let n : Registers no_fields = record { d = omega arith; a = omega arith; b = omega arith } in
+      let x : own_inputs own core no_fields ≡ inputs s core no_fields = ap (λ (own : List ℕ). own_inputs own core no_fields) o ∙ own_inputs_at s core h no_fields n in
+      let e = ap₂ (λ (x : Inputs) (eear : ℕ). faults x cause eear) x q in
+      let p = owned_as e p in
+      λ mem.
+      executed_kept s core (kept p refl mem)
+      (w ∙ own_committed s core h vectors (faults (inputs s core no_fields) cause eear') (omega arith) (p.left ∙ ap (λ (own : List ℕ). own_state vectors own 0 (faults (inputs s core no_fields) cause eear')) o))
+      refl

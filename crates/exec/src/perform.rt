@@ -1,47 +1,44 @@
+#![tactic(auto, using(crate::proofs::Performs::meant), unfolding(effect::specs::Inner::effect_by))]
 // What an entry does to memory and its core's own state, by group of kinds. Each group reads its inputs itself, so that nothing is read that
 // its instructions do not use.
-ghost use Rattle.std.specs.Prelude.{◌≡◌, ◌≤◌, ◌<◌, length};
+ghost use Rattle.std.specs.Prelude.{◌≤◌, ◌<◌};
 ghost use Rattle.isa.specs.Groups.{first_add_immediate, first_store, first_compare, first_cache};
-ghost use Rattle.isa.specs.Vectors.{vector_count};
-ghost use Rattle.effect.specs.Board.{board_with};
-ghost use Rattle.commit.specs.Inner.{OwnState};
+ghost use Rattle.effect.specs.Board.{board_of_code};
 ghost use Rattle.exec.specs.Inner.{Performs};
 
 use commit::Done;
 use commit::inputs::inputs_at;
+use effect::state::STATE_WORDS;
 use effect::types::Board;
 use isa::groups;
 
 // Jumps, exceptions and loads.
 fn low(
     board: Board,
-    vectors: &[u32],
     memory: &mut [u8],
-    own: &mut [u32],
-    core: usize,
+    own: &mut [u32; STATE_WORDS],
+    core: u8,
     kind: u8,
     entry: u64,
 ) -> Done
-    requires own_state { OwnState own.old core }
-    requires kind_lt_first_add_immediate { kind < first_add_immediate }
-    requires vectors_len { length vectors.now ≡ vector_count }
-    ensures { Performs (board_with board vectors.now) memory.old own.old core kind entry memory.new own.new result }
+    requires { kind < first_add_immediate }
+    ensures { Performs (board_of_code board.entry) memory.old own.old core kind entry memory.new own.new result }
 {
     if kind < groups::CONTROL {
         if kind < groups::NOP_MOVHI {
             let action = semantics::branch(kind, inputs_at(own, core, entry));
-            commit::jump(vectors, memory, own, core, entry, action)
+            commit::jump(board.vectors, memory, own, core, entry, action)
         } else {
             let action = semantics::nop_movhi(kind, inputs_at(own, core, entry));
-            commit::advance(vectors, memory, own, core, entry, action)
+            commit::advance(board.vectors, memory, own, core, entry, action)
         }
     } else {
         if kind < groups::LOAD {
             let action = semantics::control(kind, inputs_at(own, core, entry));
-            commit::jump(vectors, memory, own, core, entry, action)
+            commit::jump(board.vectors, memory, own, core, entry, action)
         } else {
             let action = semantics::load(memory, kind, inputs_at(own, core, entry));
-            commit::advance(vectors, memory, own, core, entry, action)
+            commit::advance(board.vectors, memory, own, core, entry, action)
         }
     }
 }
@@ -49,46 +46,40 @@ fn low(
 // What is computed of a register and an immediate.
 fn immediate(
     board: Board,
-    vectors: &[u32],
     memory: &mut [u8],
-    own: &mut [u32],
-    core: usize,
+    own: &mut [u32; STATE_WORDS],
+    core: u8,
     kind: u8,
     entry: u64,
 ) -> Done
-    requires own_state { OwnState own.old core }
-    requires first_add_immediate_le_kind { (first_add_immediate ≤ kind) × (kind < first_store) }
-    requires vectors_len { length vectors.now ≡ vector_count }
-    ensures { Performs (board_with board vectors.now) memory.old own.old core kind entry memory.new own.new result }
+    requires { (first_add_immediate ≤ kind) × (kind < first_store) }
+    ensures { Performs (board_of_code board.entry) memory.old own.old core kind entry memory.new own.new result }
 {
     if kind < groups::COMPARE_IMMEDIATE {
         if kind < groups::IMMEDIATE {
             let action = semantics::add_immediate(kind, inputs_at(own, core, entry));
-            commit::advance(vectors, memory, own, core, entry, action)
+            commit::advance(board.vectors, memory, own, core, entry, action)
         } else {
             let w = semantics::immediate(board.cores, kind, inputs_at(own, core, entry));
-            commit::write(vectors, memory, own, core, entry, w)
+            commit::write(board.vectors, memory, own, core, entry, w)
         }
     } else {
         let w = semantics::compare_immediate(kind, inputs_at(own, core, entry));
-        commit::write(vectors, memory, own, core, entry, w)
+        commit::write(board.vectors, memory, own, core, entry, w)
     }
 }
 
 // Stores, and what is computed of registers.
 fn mid(
     board: Board,
-    vectors: &[u32],
     memory: &mut [u8],
-    own: &mut [u32],
-    core: usize,
+    own: &mut [u32; STATE_WORDS],
+    core: u8,
     kind: u8,
     entry: u64,
 ) -> Done
-    requires own_state { OwnState own.old core }
-    requires first_store_le_kind { (first_store ≤ kind) × (kind < first_compare) }
-    requires vectors_len { length vectors.now ≡ vector_count }
-    ensures { Performs (board_with board vectors.now) memory.old own.old core kind entry memory.new own.new result }
+    requires { (first_store ≤ kind) × (kind < first_compare) }
+    ensures { Performs (board_of_code board.entry) memory.old own.old core kind entry memory.new own.new result }
 {
     if kind < groups::LOGIC {
         if kind < groups::ARITHMETIC {
@@ -98,67 +89,61 @@ fn mid(
                 kind,
                 inputs_at(own, core, entry),
             );
-            commit::save(vectors, memory, own, core, entry, action)
+            commit::save(board.vectors, memory, own, core, entry, action)
         } else {
             let action = semantics::arithmetic(kind, inputs_at(own, core, entry));
-            commit::advance(vectors, memory, own, core, entry, action)
+            commit::advance(board.vectors, memory, own, core, entry, action)
         }
     } else {
         let w = semantics::logic(kind, inputs_at(own, core, entry));
-        commit::write(vectors, memory, own, core, entry, w)
+        commit::write(board.vectors, memory, own, core, entry, w)
     }
 }
 
 // The cache instructions; products, quotients and the accumulator.
 fn top(
     board: Board,
-    vectors: &[u32],
     memory: &mut [u8],
-    own: &mut [u32],
-    core: usize,
+    own: &mut [u32; STATE_WORDS],
+    core: u8,
     kind: u8,
     entry: u64,
 ) -> Done
-    requires own_state { OwnState own.old core }
-    requires first_cache_le_kind { first_cache ≤ kind }
-    requires vectors_len { length vectors.now ≡ vector_count }
-    ensures { Performs (board_with board vectors.now) memory.old own.old core kind entry memory.new own.new result }
+    requires { first_cache ≤ kind }
+    ensures { Performs (board_of_code board.entry) memory.old own.old core kind entry memory.new own.new result }
 {
     if kind < groups::PRODUCT {
         let action = semantics::cache(memory.len(), kind, inputs_at(own, core, entry));
-        commit::advance(vectors, memory, own, core, entry, action)
+        commit::advance(board.vectors, memory, own, core, entry, action)
     } else {
         let action = semantics::product(kind, inputs_at(own, core, entry));
-        commit::advance(vectors, memory, own, core, entry, action)
+        commit::advance(board.vectors, memory, own, core, entry, action)
     }
 }
 
 // The kinds from the immediates on.
 fn high(
     board: Board,
-    vectors: &[u32],
     memory: &mut [u8],
-    own: &mut [u32],
-    core: usize,
+    own: &mut [u32; STATE_WORDS],
+    core: u8,
     kind: u8,
     entry: u64,
 ) -> Done
-    requires own_state { OwnState own.old core }
-    requires first_add_immediate_le_kind { first_add_immediate ≤ kind }
-    requires vectors_len { length vectors.now ≡ vector_count }
-    ensures { Performs (board_with board vectors.now) memory.old own.old core kind entry memory.new own.new result }
+    requires { first_add_immediate ≤ kind }
+    ensures { Performs (board_of_code board.entry) memory.old own.old core kind entry memory.new own.new result }
 {
     if kind < groups::STORE {
-        immediate(board, vectors, memory, own, core, kind, entry)
+        immediate(board, memory, own, core, kind, entry)
     } else {
         if kind < groups::COMPARE {
-            mid(board, vectors, memory, own, core, kind, entry)
+            mid(board, memory, own, core, kind, entry)
         } else {
             if kind < groups::CACHE {
                 let w = semantics::compare(kind, inputs_at(own, core, entry));
-                commit::write(vectors, memory, own, core, entry, w)
+                commit::write(board.vectors, memory, own, core, entry, w)
             } else {
-                top(board, vectors, memory, own, core, kind, entry)
+                top(board, memory, own, core, kind, entry)
             }
         }
     }
@@ -167,20 +152,17 @@ fn high(
 // Performs a kind with the fields of an entry. The tests halve the groups, so that none is deep.
 pub fn perform(
     board: Board,
-    vectors: &[u32],
     memory: &mut [u8],
-    own: &mut [u32],
-    core: usize,
+    own: &mut [u32; STATE_WORDS],
+    core: u8,
     kind: u8,
     entry: u64,
 ) -> Done
-    requires own_state { OwnState own.old core }
-    requires vectors_len { length vectors.now ≡ vector_count }
-    ensures { Performs (board_with board vectors.now) memory.old own.old core kind entry memory.new own.new result }
+    ensures { Performs (board_of_code board.entry) memory.old own.old core kind entry memory.new own.new result }
 {
     if kind < groups::ADD_IMMEDIATE {
-        low(board, vectors, memory, own, core, kind, entry)
+        low(board, memory, own, core, kind, entry)
     } else {
-        high(board, vectors, memory, own, core, kind, entry)
+        high(board, memory, own, core, kind, entry)
     }
 }

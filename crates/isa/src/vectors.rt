@@ -1,5 +1,5 @@
 // Where execution goes on after an exception: a list of vectors, by cause.
-ghost use Rattle.std.specs.Prelude.{◌≡◌, ◌<◌, length};
+ghost use Rattle.std.specs.Prelude.{◌≡◌, ◌<◌};
 ghost use Rattle.isa.specs.Vectors.{vector_count, place_of, old_vectors, vector as vector_of};
 
 #[derive(Clone, Copy)]
@@ -42,8 +42,7 @@ fn place(cause: Cause) -> usize
 }
 
 // The vector of a cause.
-pub fn vector(vectors: &[u32], cause: Cause) -> u32
-    requires { length vectors.now ≡ vector_count }
+pub fn vector(vectors: &[u32; COUNT], cause: Cause) -> u32
     ensures { result ≡ vector_of vectors.now cause }
 {
     vectors[place(cause)]

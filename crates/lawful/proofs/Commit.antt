@@ -273,6 +273,14 @@ module _ {board : Board} (s : List ℕ) (core : ℕ) (fits : core * state_words 
       ∙ unseen e.accumulated (exceptional vectors e.outcome) j _ t')
       (changed vectors multiple e l l.outcome_lawful t (value_kept e.place e.value l.word_lawful))
 
+-- ---- its mode is the effect's
+
+pub mode_seen : (vectors : List ℕ) (e : Effect) (a : Option Accumulator) (o : Outcome) (d : ℕ) → seen (changes vectors e a o) mode_at d ≡ e.mode
+mode_seen vectors e None (Ok u) d = refl
+mode_seen vectors e None (Err x) d = refl
+mode_seen vectors e (Some m) (Ok u) d = refl
+mode_seen vectors e (Some m) (Err x) d = refl
+
 -- ---- PICSR never grows
 
 -- nothing but the value is put there

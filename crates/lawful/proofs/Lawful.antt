@@ -63,7 +63,7 @@ pub no_link_lawful : LawfulLink (record { held = 0; address = 0 })
 no_link_lawful = record { held_bit = omega arith; address_multiple = refl; no_address = λ _. refl }
 
 -- a completed instruction
-completed_lawful : {picsr place v sr mode : ℕ} {flow : Flow} {link : Link} {a : Option Accumulator} {store : Store} → LawfulWord picsr place v → Status sr → LawfulFlow flow
+completed_lawful : {picsr place v sr mode : ℕ} {flow : Flow} {link : Link} {a : Option Accumulator} {store : Option Store} → LawfulWord picsr place v → Status sr → LawfulFlow flow
     → LawfulLink link → OwnMode mode → Lawful picsr (completing place v sr flow link mode a store)
 completed_lawful w s f l m =
     record { word_lawful = w; flow_lawful = f; link_lawful = l; sr_lawful = s; mode_lawful = m; outcome_lawful = completes }

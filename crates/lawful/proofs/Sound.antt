@@ -1,8 +1,8 @@
 -- Every instruction's effect is sound. Assumes nothing.
 use mathlib.Core.Bool.{Bool, ◌&&◌}
 use mathlib.Core.List.{List}
-use mathlib.Core.Option as option
-use mathlib.Core.Path.{◌≡◌, refl}
+use mathlib.Core.Option.{none}
+use mathlib.Core.Path.{◌≡◌}
 use Prim.Native.Nat.{ℕ, ◌%◌, ◌<◌}
 use native.Mathlib.Omega.{arith}
 use lib.Dec.{eqb, ltb}
@@ -23,7 +23,7 @@ use Rattle.effect.specs.declared.types.Inputs.{Inputs}
 use Rattle.effect.specs.Board.{Board}
 use Rattle.action.specs.Operations.{nop, sets_flag, syscall, result_or_raises, divides, jump, branch, register_jump, returns, load, load_linked, storing, store, linked, store_conditional, touch, sets_special_register, effective_address}
 use Rattle.semantics.specs.Meaning.{meaning}
-use Rattle.lawful.specs.Inner.{Sound, InWord, SoundStore, none, some}
+use Rattle.lawful.specs.Inner.{Sound, InWord, SoundStore, stores_none, stores_some}
 use Rattle.lawful.proofs.Reaches.{reaches_law}
 use Rattle.lawful.proofs.Table.{Lines, meaning_has}
 
@@ -32,7 +32,7 @@ use Rattle.lawful.proofs.Table.{Lines, meaning_has}
 module _ (board : Board) (len : ℕ) (x : Inputs) where
   pub advances_sound : (place v sr : ℕ) → place < state_words → Sound board len (advances x place v sr)
   unfolding advances
-  advances_sound place v sr h = record { place_lt = h; sound_store = none refl }
+  advances_sound place v sr h = record { place_lt = h; sound_store = stores_none }
 
   pub flag_sound : (t : Bool) → Sound board len (sets_flag x t)
   unfolding sets_flag
@@ -41,12 +41,12 @@ module _ (board : Board) (len : ℕ) (x : Inputs) where
   pub nop_sound : Sound board len (nop x)
   unfolding nop
   nop_sound =
-      if_both (Sound board len) (eqb x.immediate 1) (record { place_lt = omega arith; sound_store = none refl })
+      if_both (Sound board len) (eqb x.immediate 1) (record { place_lt = omega arith; sound_store = stores_none })
       (advances_sound 0 0 x.sr (omega arith))
 
   pub raises_sound : (place v sr : ℕ) (cause : Cause) (eear : ℕ) → place < state_words → Sound board len (raises x place v sr cause eear)
   unfolding raises
-  raises_sound place v sr cause eear h = record { place_lt = h; sound_store = none refl }
+  raises_sound place v sr cause eear h = record { place_lt = h; sound_store = stores_none }
 
   pub faults_sound : (cause : Cause) (eear : ℕ) → Sound board len (faults x cause eear)
   faults_sound cause eear = raises_sound 0 0 _ cause eear (omega arith)
@@ -57,7 +57,7 @@ module _ (board : Board) (len : ℕ) (x : Inputs) where
 
   pub jump_sound : (place v to : ℕ) → place < state_words → Sound board len (jump x place v to)
   unfolding jump
-  jump_sound place v to h = if_both (Sound board len) (in_slot x) (faults_sound _ _) (record { place_lt = h; sound_store = none refl })
+  jump_sound place v to h = if_both (Sound board len) (in_slot x) (faults_sound _ _) (record { place_lt = h; sound_store = stores_none })
 
   pub branch_sound : (taken : Bool) → Sound board len (branch x taken)
   unfolding branch
@@ -67,18 +67,18 @@ module _ (board : Board) (len : ℕ) (x : Inputs) where
   unfolding register_jump
   register_jump_sound place v h =
       if_both (Sound board len) (in_slot x) (faults_sound _ _)
-      (if_both (Sound board len) (ltb 0 (x.b % 4)) (faults_sound Alignment x.b) (record { place_lt = h; sound_store = none refl }))
+      (if_both (Sound board len) (ltb 0 (x.b % 4)) (faults_sound Alignment x.b) (record { place_lt = h; sound_store = stores_none }))
 
   pub return_sound : Sound board len (returns x)
   unfolding returns
-  return_sound = if_both (Sound board len) (in_slot x) (faults_sound _ _) (record { place_lt = omega arith; sound_store = none refl })
+  return_sound = if_both (Sound board len) (in_slot x) (faults_sound _ _) (record { place_lt = omega arith; sound_store = stores_none })
 
   pub touch_sound : Sound board len (touch x len)
   unfolding touch
   touch_sound = reaches_law (Sound board len) x 1 no_limit len (λ g. advances_sound 0 0 x.sr (omega arith)) faults_sound
 
   -- a granted access stores into one word
-  storing_in_word : {n : ℕ} → Width n → access n board.limit len (effective_address x) ≡ option.none → InWord board len (storing x n)
+  storing_in_word : {n : ℕ} → Width n → access n board.limit len (effective_address x) ≡ none → InWord board len (storing x n)
   storing_in_word {n} w g =
       let at = effective_address x in
       record {
@@ -91,13 +91,13 @@ module _ (board : Board) (len : ℕ) (x : Inputs) where
   pub store_sound : {n : ℕ} → Width n → Sound board len (store board.limit x len n)
   unfolding store
   store_sound {n} w =
-      reaches_law (Sound board len) x n board.limit len (λ g. record { place_lt = omega arith; sound_store = some (storing_in_word w g) }) faults_sound
+      reaches_law (Sound board len) x n board.limit len (λ g. record { place_lt = omega arith; sound_store = stores_some (storing_in_word w g) }) faults_sound
 
   pub store_conditional_sound : Sound board len (store_conditional board.limit x len)
   unfolding store_conditional
   store_conditional_sound =
       reaches_law (Sound board len) x 4 board.limit len
-      (λ g. record { place_lt = omega arith; sound_store = if_both (SoundStore board len) (linked x) (some (storing_in_word word_wide g)) (none refl) })
+      (λ g. record { place_lt = omega arith; sound_store = if_both (SoundStore board len) (linked x) (stores_some (storing_in_word word_wide g)) stores_none })
       faults_sound
 
   pub special_sound : (n v : ℕ) → Sound board len (sets_special_register x n v)
@@ -114,7 +114,7 @@ module _ (board : Board) (len : ℕ) (x : Inputs) where
       advances_sound 0 0 _ (omega arith)))))))))
 
   pub accumulating_sound : (place v : ℕ) → place < state_words → (m : Accumulator) → Sound board len (accumulating x place v m)
-  accumulating_sound place v h m = record { place_lt = h; sound_store = none refl }
+  accumulating_sound place v h m = record { place_lt = h; sound_store = stores_none }
 
   -- the destination is a register
   module _ (d : Register x.d) where
@@ -137,7 +137,7 @@ module _ (board : Board) (len : ℕ) (x : Inputs) where
 
     pub load_linked_sound : (mem : List ℕ) → Sound board len (load_linked x mem)
     unfolding load_linked
-    load_linked_sound mem = reaches_law (Sound board len) x 4 no_limit (length mem) (λ g. record { place_lt = omega arith; sound_store = none refl }) faults_sound
+    load_linked_sound mem = reaches_law (Sound board len) x 4 no_limit (length mem) (λ g. record { place_lt = omega arith; sound_store = stores_none }) faults_sound
 
 -- ---- every instruction
 

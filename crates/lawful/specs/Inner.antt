@@ -1,6 +1,6 @@
 -- Helper of the laws. The rules of a state (effect/specs/State.antt) as facts on its parts, what of them an instruction reads and its effect keeps, and
 -- where an effect may write.
-use Rattle.std.specs.Prelude.{List, ◌≡◌, ℕ, ◌+◌, ◌%◌, ◌<◌, ◌≤◌, Ok, Err}
+use Rattle.std.specs.Prelude.{List, ◌≡◌, ℕ, ◌+◌, ◌%◌, ◌<◌, ◌≤◌, Option, Some, None, Ok, Err}
 use Rattle.isa.specs.Register.{Register}
 use Rattle.isa.specs.Vectors.{vector}
 use Rattle.isa.specs.declared.vectors.Cause.{Cause}
@@ -109,9 +109,9 @@ pub record InWord (board : Board) (len : ℕ) (s : Store) : Type 0 where
   pub inside : s.address + s.width ≤ len
   pub in_word : s.address % 4 + s.width ≤ 4
 
-pub data SoundStore (board : Board) (len : ℕ) (s : Store) : Type 0 where
-  none : s.width ≡ 0 → SoundStore board len s
-  some : InWord board len s → SoundStore board len s
+pub data SoundStore (board : Board) (len : ℕ) : Option Store → Type 0 where
+  stores_none : SoundStore board len None
+  stores_some : {s : Store} → InWord board len s → SoundStore board len (Some s)
 
 -- len is the length of memory
 pub record Sound (board : Board) (len : ℕ) (e : Effect) : Type 0 where

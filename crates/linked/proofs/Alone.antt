@@ -1,16 +1,14 @@
 -- A run in which no core is linked: each entry is its own core's alone. Assumes nothing.
-use Rattle.std.proofs.Common.{◌≡◌, ℕ, zero, suc, ◌+◌, ◌-◌, ◌*◌, ◌<◌, true, false, List, [], ◌∷◌, length, get_or, sym, refl, ap, ◌∙◌, true≢false, add-one, arith, eq-eqb, ne_eqb, Option, Some, None, Ok, Err}
+use Rattle.std.proofs.Common.{◌≡◌, ℕ, zero, suc, ◌+◌, ◌-◌, ◌*◌, ◌<◌, true, false, List, [], ◌∷◌, length, get_or, sym, refl, ap, ◌∙◌, true≢false, add-one, arith, eq-eqb, ne_eqb}
 use mathlib.Core.Bool.{or-true}
 use Rattle.bits.proofs.Cases.{if_both, by_equality}
 use Rattle.effect.specs.State.{mode_at, linked}
 use Rattle.effect.specs.Board.{Board}
-use Rattle.product.specs.declared.Accumulator.{Accumulator}
-use Rattle.effect.specs.Effect.{Outcome}
 use Rattle.effect.specs.declared.types.Effect.{Effect}
 use Rattle.commit.specs.Commit.{word_at, core_count, put_value, own_state, writes_memory, touched, states_after}
 use Rattle.lawful.specs.Inner.{LawfulVectors, OwnMode, is_halted, is_running_lem, Lawful}
 use Rattle.lawful.specs.Accepted.{AllAccepted}
-use Rattle.lawful.proofs.Commit.{seen, puts_seen, changes, own_puts, length_value, length_own}
+use Rattle.lawful.proofs.Commit.{puts_seen, changes, mode_seen, own_puts, length_value, length_own}
 use Rattle.lawful.proofs.Links.{clears_rest}
 use Rattle.lawful.proofs.States.{lawful_place, length_states, other_states}
 use Rattle.pic.specs.Interrupt.{latched}
@@ -48,12 +46,6 @@ none_follow board lead zero x h k = refl
 none_follow board lead (suc n) x h k = rw (none_follow board lead n x (omega arith) k, ne_eqb _ _ (k (suc n) h))
 
 -- ---- an effect leaves its core in its mode
-
-mode_seen : (vectors : List ℕ) (e : Effect) (a : Option Accumulator) (o : Outcome) (d : ℕ) → seen (changes vectors e a o) mode_at d ≡ e.mode
-mode_seen vectors e None (Ok u) d = refl
-mode_seen vectors e None (Err x) d = refl
-mode_seen vectors e (Some m) (Ok u) d = refl
-mode_seen vectors e (Some m) (Err x) d = refl
 
 module _ (vectors s : List ℕ) (core : ℕ) (e : Effect) where
   mode_own : core < core_count s → word_at (own_state vectors s core e) core mode_at ≡ e.mode

@@ -1,14 +1,17 @@
 -- One schedule entry, case by case, as its code goes. Assumes nothing.
-use mathlib.Core.Bool.{Bool, true, false, not}
+use mathlib.Core.Bool.{Bool, true, false, ◌&&◌, and-true, true≢false}
 use mathlib.Core.List.{List}
 use mathlib.Core.Path.{◌≡◌, refl, ap, sym, subst, ◌∙◌}
 use Prim.Native.Nat.{ℕ, ◌+◌, ◌/◌, ◌<◌, ◌≤◌, zero-le}
-use native.Mathlib.Nat.{le_refl}
+use native.Mathlib.Nat.{le_refl, add-zero}
 use native.Mathlib.Omega.{arith}
-use lib.Dec.{T, eqb, eqb→eq}
+use lib.Dec.{T}
 use lib.ListN.{length, get_or, set}
-use borrow.Author.Tests.{eq-eqb, ne_eqb, eqb-true, le-leb, lt-leb, not-true}
+use borrow.Author.Tests.{eq-eqb, ne_eqb, eqb-true, le-leb, lt-leb}
 use Rattle.std.specs.Prelude.{if◌then◌else◌}
+use Rattle.std.specs.declared.option.Option.{Option}
+use Rattle.std.specs.declared.option.Option.TheVariants.{None, Some}
+use Rattle.std.specs.Option.{is_some}
 use Rattle.bits.proofs.Cases.{if_both}
 use Rattle.bits.proofs.Tests.{and_left, and_right, T_of, of_T}
 use Rattle.effect.specs.State.{state_words, pc_at, mode_at, picsr_at, linked, running}
@@ -18,11 +21,12 @@ use Rattle.effect.specs.declared.types.Effect.{Effect}
 use Rattle.commit.specs.Commit.{word_at, fetch_fault}
 use Rattle.commit.specs.Inner.{tells}
 use Rattle.commit.specs.declared.Done.{Done}
-use Rattle.decode_cache.specs.Cache.{filled, cached_form}
-use Rattle.decode_cache.specs.Inner.{fetch_at, cache_after}
+use Rattle.decode_cache.specs.Cache.{is_filled, filled, cached_form}
 use Rattle.decode_cache.specs.declared.Fetched.{Fetched}
+use Rattle.decode_cache.proofs.Fetches.{found_inside, found_outside}
 use Rattle.semantics.specs.Meaning.{effect_of}
 use Rattle.exec.specs.Inner.{Executed}
+use Rattle.exec.proofs.Executes.{executed_as}
 use Rattle.lawful.specs.Inner.{Mode, own, is_linked_lem, is_halted, is_running_lem}
 use Rattle.pic.specs.Interrupt.{latched, is_interrupted, interruption}
 use Rattle.pic.specs.Inner.{is_quiet}
@@ -31,7 +35,7 @@ use Rattle.pic.proofs.Silent.{quiet_low}
 use Rattle.steps.specs.Plain.{is_running, fetched, is_fetch, unfetched, plain_after}
 use Rattle.steps.specs.Fast.{emptied, fast_fetch, fast_unfetched, fast_entry, fast_step, turn_of, step_turn}
 use Rattle.steps.specs.Counts.{AtMost}
-use Rattle.steps.specs.Inner.{ReusedOnce, Grown, is_given, fast_form, given_step, given_turn, Taken, Entered, Stepped, begun, start_of, Undisturbed, straight_mode}
+use Rattle.steps.specs.Inner.{Grown, is_linked, is_given, fast_form, given_step, given_turn, Taken, Entered, Stepped, begun, start_of, Undisturbed, straight_mode}
 use Rattle.steps.specs.declared.counts.Counts.{Counts}
 use Rattle.steps.specs.declared.Scheduled.{Scheduled}
 use Rattle.steps.specs.declared.Start.{Start}
@@ -42,33 +46,16 @@ use Rattle.steps.specs.declared.Turn.TheVariants.{Idle, Unfetched, Instruction}
 -- ---- counts
 
 pub filled_le : (entry : ℕ) → filled entry ≤ 1
-filled_le entry = go (eqb entry 0)
+filled_le entry = go (is_filled entry)
   where
-    go : (b : Bool) → (if b then 0 else 1) ≤ 1
-    go true = zero-le
-    go false = le_refl 1
-
--- what the step hands up
-pub turn_once : (board : Board) (mem s c : List ℕ) (entry : Scheduled) (form : ℕ) → ReusedOnce (given_turn board mem s c entry form)
-unfolding given_turn step_turn turn_of
-turn_once board mem s c entry form =
-    let t = latched s entry.core entry.lines in
-    if_both ReusedOnce (is_given s entry.core form) zero-le
-    (if_both ReusedOnce (is_running s entry.core)
-    (if_both ReusedOnce (is_fetch mem t entry.core) (filled_le (get_or c (fetched t entry.core) 0)) tt) tt)
+    go : (b : Bool) → (if b then 1 else 0) ≤ 1
+    go true = le_refl 1
+    go false = zero-le
 
 pub grown : {n n' : Counts} (i : ℕ) → AtMost i n → Grown n n' → AtMost (i + 1) n'
 grown i a g = record { executed_le = omega arith; raised_le = omega arith; reused_le = omega arith }
 
 -- ---- an entry of a core that is not interrupted
-
--- what it executes: what it fetches, or what it is given
-module _ (board : Board) (mem c : List ℕ) (pc : ℕ) {form : ℕ} {f : Fetched} {c' : List ℕ} (t : Taken board mem c pc form f c') where
-  pub taken_fetched : form ≡ 0 → (f ≡ fetch_at board mem c pc) × (c' ≡ cache_after board mem c pc)
-  taken_fetched z = (t.0 ∙ rw (eq-eqb form 0 z), t.1 ∙ rw (eq-eqb form 0 z))
-
-  pub taken_given : (form ≡ 0 → ⊥) → (f ≡ record { entry = form; reused = 0 }) × (c' ≡ c)
-  taken_given n = (t.0 ∙ rw (ne_eqb form 0 n), t.1 ∙ rw (ne_eqb form 0 n))
 
 module _ (board : Board) (mem s c : List ℕ) (core : ℕ) where
   is_fetch_lem : is_interrupted s core ≡ false → word_at s core pc_at + 4 ≤ length mem → is_fetch mem s core ≡ true
@@ -85,7 +72,7 @@ module _ (board : Board) (mem s c : List ℕ) (core : ℕ) where
 
   -- no word is fetched
   entered_unfetched : {mem' s' : List ℕ} {o : Outcome} {e : Effect} → is_fetch mem s core ≡ false → e ≡ unfetched s core
-      → Executed board.vectors mem s core e mem' s' (tells o no_store) → Entered board mem s c core 0 mem' s' c (Unfetched o)
+      → Executed board.vectors mem s core e mem' s' (tells o no_store) → Entered board mem s c core None mem' s' c (Unfetched o)
   unfolding fast_entry fast_unfetched plain_after turn_of
   entered_unfetched {mem'} {s'} {o} {e} f q x =
       let p : o ≡ e.outcome = ap (λ (d : Done). d.outcome) x.done in
@@ -95,21 +82,21 @@ module _ (board : Board) (mem s c : List ℕ) (core : ℕ) where
       }
 
   pub entered_outside : {mem' s' : List ℕ} {o : Outcome} → is_interrupted s core ≡ false → length mem < word_at s core pc_at + 4
-      → Executed board.vectors mem s core (fetch_fault s core) mem' s' (tells o no_store) → Entered board mem s c core 0 mem' s' c (Unfetched o)
+      → Executed board.vectors mem s core (fetch_fault s core) mem' s' (tells o no_store) → Entered board mem s c core None mem' s' c (Unfetched o)
   unfolding unfetched
   entered_outside h g x = entered_unfetched (no_fetch_outside h g) (rw h) x
 
   pub entered_interrupted : {mem' s' : List ℕ} {o : Outcome} → is_interrupted s core ≡ true
-      → Executed board.vectors mem s core (interruption s core) mem' s' (tells o no_store) → Entered board mem s c core 0 mem' s' c (Unfetched o)
+      → Executed board.vectors mem s core (interruption s core) mem' s' (tells o no_store) → Entered board mem s c core None mem' s' c (Unfetched o)
   unfolding unfetched
   entered_interrupted h x = entered_unfetched (no_fetch_interrupted h) (rw h) x
 
   -- the cache after the fetch of word k, and after its instruction
-  pub entered_inside : {k : ℕ} (c' : List ℕ) {mem' s' c'' : List ℕ} {r : Done} {u : ℕ} → k ≡ fetched s core
+  pub entered_inside : {k : ℕ} (c' : List ℕ) {mem' s' c'' : List ℕ} {r : Done} {u : Bool} → k ≡ fetched s core
       → is_interrupted s core ≡ false → word_at s core pc_at + 4 ≤ length mem
       → c' ≡ set c k (cached_form board mem c k) → Executed board.vectors mem s core (effect_of board mem s core (cached_form board mem c k)) mem' s' r
-      → c'' ≡ (if r.stored then set c' (r.address / 4) 0 else c') → u ≡ filled (get_or c k 0)
-      → Entered board mem s c core 0 mem' s' c'' (Instruction r.outcome u)
+      → c'' ≡ (if r.stored then set c' (r.address / 4) 0 else c') → u ≡ is_filled (get_or c k 0)
+      → Entered board mem s c core None mem' s' c'' (Instruction r.outcome u)
   unfolding fast_entry fast_fetch plain_after emptied turn_of
   entered_inside c' w h g p x t q =
       record {
@@ -117,96 +104,109 @@ module _ (board : Board) (mem s c : List ℕ) (core : ℕ) where
         left = λ n. rw (is_fetch_lem h g, t, p, q, x.memory, x.states, x.done, w);
       }
 
-  -- 0 stands for what is fetched
-  pub entered_fetched : {form : ℕ} {mem' s' c' : List ℕ} {r : Turn} → form ≡ 0 → Entered board mem s c core 0 mem' s' c' r → Entered board mem s c core form mem' s' c' r
-  entered_fetched {form} {mem'} {s'} {c'} {r} z e = subst (λ (f : ℕ). Entered board mem s c core f mem' s' c' r) (sym z) e
-
   -- a form is given
-  pub entered_given : (form : ℕ) {mem' s' c'' : List ℕ} {r : Done} {u : ℕ} → (form ≡ 0 → ⊥) → Executed board.vectors mem s core (effect_of board mem s core form) mem' s' r
-      → c'' ≡ (if r.stored then set c (r.address / 4) 0 else c) → u ≡ 0 → Entered board mem s c core form mem' s' c'' (Instruction r.outcome u)
+  pub entered_given : (form : ℕ) {mem' s' c'' : List ℕ} {r : Done} → Executed board.vectors mem s core (effect_of board mem s core form) mem' s' r
+      → c'' ≡ (if r.stored then set c (r.address / 4) 0 else c) → Entered board mem s c core (Some form) mem' s' c'' (Instruction r.outcome false)
   unfolding fast_form plain_after emptied
-  entered_given form {u = u} n x t q =
-      record {
-        turn = rw (ne_eqb form 0 n, q, x.done);
-        left = λ m. let z : m.reused + u ≡ m.reused = omega arith in rw (ne_eqb form 0 n, z, t, x.memory, x.states, x.done);
-      }
+  entered_given form x t = record { turn = rw x.done; left = λ m. rw (add-zero m.reused, t, x.memory, x.states, x.done) }
+
+  -- any, as the code goes: nothing to execute is found, or some form
+  module _ (given : Option ℕ) (n : given ≡ None → is_interrupted s core ≡ false) where
+    pub enters_outside : {c' : List ℕ} → Taken board mem c (word_at s core pc_at) given None c' → {s' : List ℕ} {o : Outcome}
+        → Executed board.vectors mem s core (fetch_fault s core) mem s' (tells o no_store) → Entered board mem s c core given mem s' c' (Unfetched o)
+    enters_outside {c'} t {s'} {o} x = by given n t
+      where
+        by : (given : Option ℕ) → (given ≡ None → is_interrupted s core ≡ false) → Taken board mem c (word_at s core pc_at) given None c'
+            → Entered board mem s c core given mem s' c' (Unfetched o)
+        by None n t =
+            let out = found_outside board mem c (word_at s core pc_at) t.1 t.0 in
+            subst (λ (l : List ℕ). Entered board mem s c core None mem s' l (Unfetched o)) (sym out.cache) (entered_outside (n refl) out.outside x)
+        by (Some form) n t = cc
+
+    pub enters_inside : {f : Fetched} {c' : List ℕ} → Taken board mem c (word_at s core pc_at) given (Some f) c' → {mem' s' c'' : List ℕ} {r : Done}
+        → Executed board.vectors mem s core (effect_of board mem s core f.entry) mem' s' r → c'' ≡ (if r.stored then set c' (r.address / 4) 0 else c')
+        → Entered board mem s c core given mem' s' c'' (Instruction r.outcome f.reused)
+    enters_inside {f} {c'} t {mem'} {s'} {c''} {r} x e = by given n t
+      where
+        by : (given : Option ℕ) → (given ≡ None → is_interrupted s core ≡ false) → Taken board mem c (word_at s core pc_at) given (Some f) c'
+            → Entered board mem s c core given mem' s' c'' (Instruction r.outcome f.reused)
+        by None n t =
+            let i = found_inside board mem c (word_at s core pc_at) t.1 t.0 in
+            entered_inside c' refl (n refl) i.inside i.cache (executed_as (ap (λ (g : Fetched). effect_of board mem s core g.entry) i.found) x) e (ap (λ (g : Fetched). g.reused) i.found)
+        by (Some form) n t =
+            let p : f ≡ record { entry = form; reused = false } = cc in
+            let u : f.reused ≡ false = ap (λ (g : Fetched). g.reused) p in
+            rw u (entered_given form (executed_as (ap (λ (g : Fetched). effect_of board mem s core g.entry) p) x) (rw t.1 at e))
 
 -- ---- any entry
 
 -- what its beginning says, a being whether its core runs, b whether it is interrupted, and g whether it is given a form
-start_by : Bool → Bool → Bool → ℕ → Start
-start_by a b g form = if a then (if b then start.Interrupt else start.Execute 0) else if g then start.Execute form else start.Idle
+start_by : Bool → Bool → Bool → Option ℕ → Start
+start_by a b g given = if a then (if b then start.Interrupt else start.Execute None) else if g then start.Execute given else start.Idle
 
-abbrev start_number : Start → ℕ
-start_number start.Idle = 0
-start_number start.Interrupt = 1
-start_number (start.Execute form) = 2
-
-abbrev start_form : Start → ℕ
-start_form start.Idle = 0
-start_form start.Interrupt = 0
-start_form (start.Execute form) = form
-
-apart : {m n : Start} {A : Type 0} → m ≡ n → (start_number m ≡ start_number n → ⊥) → A
-apart q n = absurd (n (ap start_number q))
-
-idle_from : (a b g : Bool) (form : ℕ) → start.Idle ≡ start_by a b g form → (a ≡ false) × (g ≡ false)
+idle_from : (a b g : Bool) (given : Option ℕ) → start.Idle ≡ start_by a b g given → (a ≡ false) × (g ≡ false)
 unfolding start_by
-idle_from true true g form q = apart q (λ z. omega arith)
-idle_from true false g form q = apart q (λ z. omega arith)
-idle_from false b true form q = apart q (λ z. omega arith)
-idle_from false b false form q = (refl, refl)
+idle_from true true g given q = cc
+idle_from true false g given q = cc
+idle_from false b true given q = cc
+idle_from false b false given q = (refl, refl)
 
-interrupt_from : (a b g : Bool) (form : ℕ) → start.Interrupt ≡ start_by a b g form → (a ≡ true) × (b ≡ true)
+interrupt_from : (a b g : Bool) (given : Option ℕ) → start.Interrupt ≡ start_by a b g given → (a ≡ true) × (b ≡ true)
 unfolding start_by
-interrupt_from true true g form q = (refl, refl)
-interrupt_from true false g form q = apart q (λ z. omega arith)
-interrupt_from false b true form q = apart q (λ z. omega arith)
-interrupt_from false b false form q = apart q (λ z. omega arith)
+interrupt_from true true g given q = (refl, refl)
+interrupt_from true false g given q = cc
+interrupt_from false b true given q = cc
+interrupt_from false b false given q = cc
 
 -- a core executes what it fetches, or what it is given
-data Executes (a b g : Bool) (form : ℕ) : ℕ → Type 0 where
-  fetches : a ≡ true → b ≡ false → Executes a b g form 0
-  takes : a ≡ false → g ≡ true → Executes a b g form form
+data Executes (a b g : Bool) (given : Option ℕ) : Option ℕ → Type 0 where
+  fetches : a ≡ true → b ≡ false → Executes a b g given None
+  takes : a ≡ false → g ≡ true → Executes a b g given given
 
-execute_from : (a b g : Bool) (form f : ℕ) → start.Execute f ≡ start_by a b g form → Executes a b g form f
+execute_from : (a b g : Bool) (given f : Option ℕ) → start.Execute f ≡ start_by a b g given → Executes a b g given f
 unfolding start_by
-execute_from true true g form f q = apart q (λ z. omega arith)
-execute_from true false g form f q = subst (Executes true false g form) (sym (ap start_form q)) (fetches refl refl)
-execute_from false b true form f q = subst (Executes false b true form) (sym (ap start_form q)) (takes refl refl)
-execute_from false b false form f q = apart q (λ z. omega arith)
+execute_from true true g given f q = cc
+execute_from true false g given f q = let e : None ≡ f = cc in subst (Executes true false g given) e (fetches refl refl)
+execute_from false b true given f q = let e : given ≡ f = cc in subst (Executes false b true given) e (takes refl refl)
+execute_from false b false given f q = cc
 
 -- a linked core does not run
-not_running : (s : List ℕ) (core form : ℕ) → is_running s core ≡ true → is_given s core form ≡ false
-not_running s core form h =
+not_running : (s : List ℕ) (core : ℕ) → is_running s core ≡ true → is_linked s core ≡ false
+not_running s core h =
     let m : word_at s core mode_at ≡ running = eqb-true _ _ h in
-    rw (ne_eqb (word_at s core mode_at) linked (λ z. omega arith))
+    ne_eqb (word_at s core mode_at) linked (λ z. omega arith)
 
-module _ (s : List ℕ) (entry : Scheduled) (form : ℕ) where
+-- what is given is some form
+given_some : (s : List ℕ) (core : ℕ) (given : Option ℕ) → is_given s core given ≡ true → (is_linked s core ≡ true) × (is_some given ≡ true)
+given_some s core given g =
+    let t : T (is_linked s core && is_some given) = T_of _ g in
+    (of_T _ (and_left (is_linked s core) (is_some given) t), of_T _ (and_right (is_linked s core) (is_some given) t))
+
+module _ (s : List ℕ) (entry : Scheduled) (given : Option ℕ) where
   abbrev runs : Bool
   runs = is_running s entry.core
 
   abbrev interrupted : Bool
   interrupted = is_interrupted (latched s entry.core entry.lines) entry.core
 
-  abbrev given : Bool
-  given = is_given s entry.core form
+  abbrev takes_given : Bool
+  takes_given = is_given s entry.core given
 
   -- how it begins, case by case
-  pub begins_idle : (word_at s entry.core mode_at ≡ running → ⊥) → given ≡ false → (s ≡ begun s entry) × (start.Idle ≡ start_of s entry form)
+  pub begins_idle : (word_at s entry.core mode_at ≡ running → ⊥) → takes_given ≡ false → (s ≡ begun s entry) × (start.Idle ≡ start_of s entry given)
   begins_idle h g = (rw (ne_eqb _ _ h), rw (ne_eqb _ _ h, g))
 
-  pub begins_given : given ≡ true → (s ≡ begun s entry) × (start.Execute form ≡ start_of s entry form)
+  pub begins_given : takes_given ≡ true → (s ≡ begun s entry) × (start.Execute given ≡ start_of s entry given)
   begins_given g =
-      let h : word_at s entry.core mode_at ≡ linked = eqb→eq _ linked (and_left (eqb (word_at s entry.core mode_at) linked) (not (eqb form 0)) (T_of _ g)) in
+      let h : word_at s entry.core mode_at ≡ linked = eqb-true _ linked (given_some s entry.core given g).0 in
       let r : is_running s entry.core ≡ false = ne_eqb (word_at s entry.core mode_at) running (λ z. omega arith) in
       (rw r, rw (r, g))
 
   pub begins_latched : {t : List ℕ} {b : Bool} → word_at s entry.core mode_at ≡ running → t ≡ latched s entry.core entry.lines
-      → b ≡ interrupted → (t ≡ begun s entry) × ((if b then start.Interrupt else start.Execute 0) ≡ start_of s entry form)
+      → b ≡ interrupted → (t ≡ begun s entry) × ((if b then start.Interrupt else start.Execute None) ≡ start_of s entry given)
   begins_latched h q r = (rw (eq-eqb _ _ h) q, rw (eq-eqb _ _ h, r))
 
-  pub begins_undisturbed : Undisturbed s entry → (s ≡ begun s entry) × (start.Execute 0 ≡ start_of s entry form)
+  pub begins_undisturbed : Undisturbed s entry → (s ≡ begun s entry) × (start.Execute None ≡ start_of s entry given)
   begins_undisturbed u =
       let same : latched s entry.core entry.lines ≡ s = ap (latched s entry.core) u.low ∙ latch_low s entry.core in
       begins_latched u.runs (sym same)
@@ -219,16 +219,14 @@ module _ (s : List ℕ) (entry : Scheduled) (form : ℕ) where
     kept_then : runs ≡ false → t ≡ s
     kept_then h = q ∙ rw h
 
-    -- what an instruction needs: a form that is given is not 0
-    pub fetch_undisturbed : {f : ℕ} → start.Execute f ≡ start_of s entry form → f ≡ 0 → is_interrupted t entry.core ≡ false
+    -- what an instruction needs, unless a form is given
+    pub fetch_undisturbed : {f : Option ℕ} → start.Execute f ≡ start_of s entry given → f ≡ None → is_interrupted t entry.core ≡ false
     unfolding start_by
-    fetch_undisturbed {f} r z = go (execute_from runs interrupted given form f r) z
+    fetch_undisturbed {f} r z = go (execute_from runs interrupted takes_given given f r) z
       where
-        go : {f : ℕ} → Executes runs interrupted given form f → f ≡ 0 → is_interrupted t entry.core ≡ false
+        go : {f : Option ℕ} → Executes runs interrupted takes_given given f → f ≡ None → is_interrupted t entry.core ≡ false
         go (fetches h g) z = ap (λ (t : List ℕ). is_interrupted t entry.core) (latched_then h) ∙ g
-        go (takes h g) z =
-            let n : T (not (eqb form 0)) = and_right (eqb (word_at s entry.core mode_at) linked) (not (eqb form 0)) (T_of _ g) in
-            absurd (rw (eq-eqb form 0 z) at n)
+        go (takes h g) z = let some = (given_some s entry.core given g).1 in absurd (true≢false (sym some ∙ rw z))
 
     -- every word but PICSR is as it was
     pub begun_word : (j : ℕ) → j < state_words → (j ≡ picsr_at → ⊥) → word_at t entry.core j ≡ word_at s entry.core j
@@ -239,54 +237,62 @@ module _ (s : List ℕ) (entry : Scheduled) (form : ℕ) where
     pub begun_length : length t ≡ length s
     begun_length = rw q (if_both (λ (t : List ℕ). length t ≡ length s) runs (length_latched s entry.core entry.lines) refl)
 
-module _ (board : Board) (mem s c : List ℕ) (entry : Scheduled) (form : ℕ) where
-  stepped_idle : runs s entry form ≡ false → given s entry form ≡ false → Stepped board mem s c entry form mem s c Idle
+module _ (board : Board) (mem s c : List ℕ) (entry : Scheduled) (given : Option ℕ) where
+  stepped_idle : runs s entry given ≡ false → takes_given s entry given ≡ false → Stepped board mem s c entry given mem s c Idle
   unfolding given_step given_turn fast_step step_turn
-  stepped_idle h g = record { turn = rw (g, h); left = λ n. rw (g, h) }
+  stepped_idle h g = by given g
+    where
+      by : (given : Option ℕ) → is_given s entry.core given ≡ false → Stepped board mem s c entry given mem s c Idle
+      by None g = record { turn = rw h; left = λ n. rw h }
+      by (Some form) g = let l : is_linked s entry.core ≡ false = sym (and-true (is_linked s entry.core)) ∙ g in record { turn = rw (l, h); left = λ n. rw (l, h) }
 
   -- a running core's
-  stepped_running : {mem' s' c' : List ℕ} {r : Turn} → runs s entry form ≡ true
-      → Entered board mem (latched s entry.core entry.lines) c entry.core 0 mem' s' c' r → Stepped board mem s c entry form mem' s' c' r
+  stepped_running : {mem' s' c' : List ℕ} {r : Turn} → runs s entry given ≡ true
+      → Entered board mem (latched s entry.core entry.lines) c entry.core None mem' s' c' r → Stepped board mem s c entry given mem' s' c' r
   unfolding given_step given_turn fast_step step_turn
-  stepped_running h e =
-      let g : given s entry form ≡ false = not_running s entry.core form h in
-      record { turn = rw (g, h) e.turn; left = λ n. rw (g, h) (e.left n) }
+  stepped_running {mem'} {s'} {c'} {r} h e = by given
+    where
+      by : (given : Option ℕ) → Stepped board mem s c entry given mem' s' c' r
+      by None = record { turn = rw h e.turn; left = λ n. rw h (e.left n) }
+      by (Some form) = let l = not_running s entry.core h in record { turn = rw (l, h) e.turn; left = λ n. rw (l, h) (e.left n) }
 
   -- one that is given a form
-  stepped_given : {mem' s' c' : List ℕ} {r : Turn} → given s entry form ≡ true → Entered board mem s c entry.core form mem' s' c' r
-      → Stepped board mem s c entry form mem' s' c' r
+  stepped_given : {mem' s' c' : List ℕ} {r : Turn} → takes_given s entry given ≡ true → Entered board mem s c entry.core given mem' s' c' r
+      → Stepped board mem s c entry given mem' s' c' r
   unfolding given_step given_turn
-  stepped_given g e =
-      let n : T (not (eqb form 0)) = and_right (eqb (word_at s entry.core mode_at) linked) (not (eqb form 0)) (T_of _ g) in
-      let z : eqb form 0 ≡ false = not-true _ (of_T _ n) in
-      record { turn = rw g (rw z at e.turn); left = λ n. rw g (rw z at (e.left n)) }
+  stepped_given {mem'} {s'} {c'} {r} g e = by given (given_some s entry.core given g) e
+    where
+      by : (given : Option ℕ) → (is_linked s entry.core ≡ true) × (is_some given ≡ true) → Entered board mem s c entry.core given mem' s' c' r
+          → Stepped board mem s c entry given mem' s' c' r
+      by None g e = cc
+      by (Some form) g e = record { turn = rw g.0 e.turn; left = λ n. rw g.0 (e.left n) }
 
   module _ {t : List ℕ} (q : t ≡ begun s entry) where
-    pub step_idle : start.Idle ≡ start_of s entry form → Stepped board mem s c entry form mem t c Idle
+    pub step_idle : start.Idle ≡ start_of s entry given → Stepped board mem s c entry given mem t c Idle
     unfolding start_by
     step_idle r =
-        let h = idle_from (runs s entry form) (interrupted s entry form) (given s entry form) form r in
-        rw (kept_then s entry form q h.0) (stepped_idle h.0 h.1)
+        let h = idle_from (runs s entry given) (interrupted s entry given) (takes_given s entry given) given r in
+        rw (kept_then s entry given q h.0) (stepped_idle h.0 h.1)
 
-    pub step_interrupted : {s' : List ℕ} {o : Outcome} → start.Interrupt ≡ start_of s entry form → Executed board.vectors mem t entry.core (interruption t entry.core) mem s' (tells o no_store)
-        → Stepped board mem s c entry form mem s' c (Unfetched o)
+    pub step_interrupted : {s' : List ℕ} {o : Outcome} → start.Interrupt ≡ start_of s entry given → Executed board.vectors mem t entry.core (interruption t entry.core) mem s' (tells o no_store)
+        → Stepped board mem s c entry given mem s' c (Unfetched o)
     unfolding start_by
     step_interrupted {s'} {o} r x =
-        let h = interrupt_from (runs s entry form) (interrupted s entry form) (given s entry form) form r in
+        let h = interrupt_from (runs s entry given) (interrupted s entry given) (takes_given s entry given) given r in
         stepped_running h.0
         (entered_interrupted board mem (latched s entry.core entry.lines) c entry.core h.1
-        (subst (λ (t : List ℕ). Executed board.vectors mem t entry.core (interruption t entry.core) mem s' (tells o no_store)) (latched_then s entry form q h.0) x))
+        (subst (λ (t : List ℕ). Executed board.vectors mem t entry.core (interruption t entry.core) mem s' (tells o no_store)) (latched_then s entry given q h.0) x))
 
-    pub step_executed : {f : ℕ} {mem' s' c' : List ℕ} {r : Turn} → start.Execute f ≡ start_of s entry form → Entered board mem t c entry.core f mem' s' c' r
-        → Stepped board mem s c entry form mem' s' c' r
+    pub step_executed : {f : Option ℕ} {mem' s' c' : List ℕ} {r : Turn} → start.Execute f ≡ start_of s entry given → Entered board mem t c entry.core f mem' s' c' r
+        → Stepped board mem s c entry given mem' s' c' r
     unfolding start_by
-    step_executed {f} {mem'} {s'} {c'} {r} p e = go (execute_from (runs s entry form) (interrupted s entry form) (given s entry form) form f p) e
+    step_executed {f} {mem'} {s'} {c'} {r} p e = go (execute_from (runs s entry given) (interrupted s entry given) (takes_given s entry given) given f p) e
       where
-        go : {f : ℕ} → Executes (runs s entry form) (interrupted s entry form) (given s entry form) form f → Entered board mem t c entry.core f mem' s' c' r
-            → Stepped board mem s c entry form mem' s' c' r
+        go : {f : Option ℕ} → Executes (runs s entry given) (interrupted s entry given) (takes_given s entry given) given f → Entered board mem t c entry.core f mem' s' c' r
+            → Stepped board mem s c entry given mem' s' c' r
         go (fetches h g) e =
-            stepped_running h (subst (λ (t : List ℕ). Entered board mem t c entry.core 0 mem' s' c' r) (latched_then s entry form q h) e)
-        go (takes h g) e = stepped_given g (subst (λ (t : List ℕ). Entered board mem t c entry.core form mem' s' c' r) (kept_then s entry form q h) e)
+            stepped_running h (subst (λ (t : List ℕ). Entered board mem t c entry.core None mem' s' c' r) (latched_then s entry given q h) e)
+        go (takes h g) e = stepped_given g (subst (λ (t : List ℕ). Entered board mem t c entry.core given mem' s' c' r) (kept_then s entry given q h) e)
 
 -- ---- the mode that goes straight on
 

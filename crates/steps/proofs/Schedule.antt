@@ -1,5 +1,5 @@
 -- What an entry keeps, and a schedule entry by entry. Assumes nothing.
-use mathlib.Core.Bool.{Bool, true, false, not, and-false}
+use mathlib.Core.Bool.{Bool, true, false}
 use mathlib.Core.List.{List, [], ◌∷◌}
 use mathlib.Core.Path.{◌≡◌, refl, sym, ap, subst, ◌∙◌}
 use Prim.Native.Nat.{ℕ, zero, suc, ◌+◌, ◌<◌, ◌≤◌}
@@ -8,20 +8,20 @@ use native.Mathlib.Numerals.{add-one}
 use native.Mathlib.Omega.{arith}
 use lib.ListN.{length, get_or, drop, drop_of_length-le}
 use lib.Seq.{drop-cons, ext_get_or}
-use lib.Dec.{T, eqb}
+use lib.Dec.{eqb}
 use borrow.Author.Tests.{eq-eqb, ne_eqb}
 use Rattle.std.specs.Prelude.{if◌then◌else◌}
-use Rattle.bits.proofs.Cases.{if_law, if_both, by_equality}
-use Rattle.bits.proofs.Tests.{and_right, T_of}
+use Rattle.std.specs.declared.option.Option.{Option}
+use Rattle.std.specs.declared.option.Option.TheVariants.{None, Some}
+use Rattle.std.specs.Option.{IfSome}
+use Rattle.bits.proofs.Cases.{if_both, by_equality}
 use Rattle.isa.specs.declared.vectors.Cause.TheVariants.{Bus, Interrupt}
-use Rattle.isa.specs.InstructionSet.{decode}
 use Rattle.memory.specs.Memory.{memory_word}
 use Rattle.effect.specs.State.{pc_at, eear_at, mode_at, picsr_at, linked}
 use Rattle.effect.specs.Board.{Board}
 use Rattle.effect.specs.declared.types.Effect.{Effect}
 use Rattle.commit.specs.Commit.{word_at, core_count, inputs, no_fields, writes_memory, states_after, raised_by}
 use Rattle.decode_cache.specs.Cache.{form_at}
-use Rattle.decode_cache.proofs.Forms.{decode_filled}
 use Rattle.semantics.specs.Meaning.{effect_of}
 use Rattle.lawful.specs.Inner.{LawfulVectors, Lawful}
 use Rattle.lawful.specs.Accepted.{AllAccepted}
@@ -35,7 +35,7 @@ use Rattle.refusal.specs.Lent.{Lent, lent, board_of}
 use Rattle.steps.specs.Plain.{Plain, scheduled, is_running, latching, fetched, is_fetch, unfetched, plain_effect, plain_after, plain_entry, plain_step}
 use Rattle.steps.specs.Fast.{Fast, emptied, fast_fetch, fast_unfetched, fast_entry, fast_step}
 use Rattle.steps.specs.History.{cached_at_first, entries_from}
-use Rattle.steps.specs.Inner.{fast_of, IsForm, is_given, fast_form, given_step, given_from, Right, Finished, FormExecuted}
+use Rattle.steps.specs.Inner.{fast_of, IsForm, is_linked, fast_form, given_step, given_from, Right, Finished, FormExecuted}
 use Rattle.steps.specs.Counts.{no_counts}
 use Rattle.steps.specs.declared.counts.Counts.{Counts}
 use Rattle.steps.specs.declared.Scheduled.{Scheduled}
@@ -43,14 +43,14 @@ use Rattle.steps.proofs.Agree.{step_agrees, right_emptied, cached_at, length_cac
 
 -- ---- the entry i of a schedule
 
-module _ (board : Board) (form : ℕ) (schedule levels : List ℕ) (i : ℕ) (x : Fast) where
+module _ (board : Board) (given : Option ℕ) (schedule levels : List ℕ) (i : ℕ) (x : Fast) where
   pub from_next : {core : ℕ} → core ≡ get_or schedule i 0 → i < length schedule → i < length levels
-      → given_from board form (scheduled (drop i schedule) (drop i levels)) x
-      ≡ given_from board form (scheduled (drop (i + 1) schedule) (drop (i + 1) levels)) (given_step board form x (record { core = core; lines = get_or levels i 0 }))
+      → given_from board given (scheduled (drop i schedule) (drop i levels)) x
+      ≡ given_from board given (scheduled (drop (i + 1) schedule) (drop (i + 1) levels)) (given_step board given x (record { core = core; lines = get_or levels i 0 }))
   unfolding given_from scheduled
   from_next e h g = rw (e, add-one, drop-cons schedule i 0 h, drop-cons levels i 0 g)
 
-  pub from_end : length schedule ≤ i → given_from board form (scheduled (drop i schedule) (drop i levels)) x ≡ x
+  pub from_end : length schedule ≤ i → given_from board given (scheduled (drop i schedule) (drop i levels)) x ≡ x
   unfolding given_from scheduled
   from_end h = rw (drop_of_length-le schedule h)
 
@@ -149,16 +149,9 @@ none_latched_kept board x entry z h a r n q =
 
 -- ---- the same of an entry whose core is given a form, if it is linked
 
-none_given : (s : List ℕ) (core : ℕ) → is_given s core 0 ≡ false
-none_given s core = and-false (eqb (word_at s core mode_at) linked)
-
-pub given_none : (board : Board) (x : Fast) (entry : Scheduled) → given_step board 0 x entry ≡ fast_step board x entry
+pub given_none : (board : Board) (x : Fast) (entry : Scheduled) → given_step board None x entry ≡ fast_step board x entry
 unfolding given_step
-given_none board x entry = rw (none_given x.plain.states entry.core)
-
-is_form : (s : List ℕ) (core : ℕ) {form : ℕ} → ((form ≡ 0 → ⊥) → IsForm form) → is_given s core form ≡ true → IsForm form
-is_form s core {form} f g =
-    f (λ z. let t : T (not (eqb form 0)) = and_right (eqb (word_at s core mode_at) linked) (not (eqb form 0)) (T_of _ g) in rw (eq-eqb form 0 z) at t)
+given_none board x entry = refl
 
 module _ (board : Board) (form : ℕ) (x : Fast) (core : ℕ) (h : core < core_count x.plain.states) (a : AllAccepted board x.plain.states) (f : IsForm form) where
   form_lawful : Lawful (word_at x.plain.states core picsr_at) (effect_of board x.plain.memory x.plain.states core form)
@@ -182,22 +175,25 @@ module _ (board : Board) (form : ℕ) (x : Fast) (core : ℕ) (h : core < core_c
       let j : c < core_count x.plain.states = omega arith in
       omega (arith, states_picsr board.vectors x.plain.states core e form_lawful h c j, n c j)
 
-module _ (board : Board) (form : ℕ) (x : Fast) (entry : Scheduled) (h : entry.core < core_count x.plain.states) (a : AllAccepted board x.plain.states)
-    (r : Right board x.cache x.plain.memory) (f : (form ≡ 0 → ⊥) → IsForm form) {y : Fast} (q : y ≡ given_step board form x entry) where
-  by_given : (P : Fast → Type 0) → (IsForm form → P (fast_form board x entry.core form)) → P (fast_step board x entry) → P y
+module _ (board : Board) (given : Option ℕ) (x : Fast) (entry : Scheduled) (h : entry.core < core_count x.plain.states) (a : AllAccepted board x.plain.states)
+    (r : Right board x.cache x.plain.memory) (f : IfSome given IsForm) {y : Fast} (q : y ≡ given_step board given x entry) where
+  by_given : (P : Fast → Type 0) → ((form : ℕ) → IsForm form → P (fast_form board x entry.core form)) → P (fast_step board x entry) → P y
   unfolding given_step
-  by_given P it none =
-      subst P (sym q) (if_law P (is_given x.plain.states entry.core form) (λ g. it (is_form x.plain.states entry.core f g)) (λ _. none))
+  by_given P it none = subst P (sym q) (go given f)
+    where
+      go : (given : Option ℕ) → IfSome given IsForm → P (given_step board given x entry)
+      go None f = none
+      go (Some form) f = if_both P (is_linked x.plain.states entry.core) (it form f) none
 
   pub given_kept : LawfulVectors board.vectors → AllAccepted board y.plain.states × Right board y.cache y.plain.memory
   given_kept v =
       by_given (λ (z : Fast). AllAccepted board z.plain.states × Right board z.cache z.plain.memory)
-      (λ g. (form_accepted board form x entry.core h a g v, form_right board form x entry.core h a g r))
+      (λ form g. (form_accepted board form x entry.core h a g v, form_right board form x entry.core h a g r))
       (step_kept board v x entry h a r refl)
 
   pub given_latched : entry.lines ≡ 0 → NoneLatched x.plain.states → NoneLatched y.plain.states
   given_latched z n =
-      by_given (λ (w : Fast). NoneLatched w.plain.states) (λ g. form_latched board form x entry.core h a g n)
+      by_given (λ (w : Fast). NoneLatched w.plain.states) (λ form g. form_latched board form x entry.core h a g n)
       (none_latched_kept board x entry z h a r n refl)
 
 -- a linked core alone
@@ -205,11 +201,10 @@ module _ (mem s : List ℕ) (limit : ℕ) (vectors cache : List ℕ) (core form 
   abbrev alone : Lent
   alone = lent mem s (core ∷ []) (0 ∷ []) limit vectors
 
-  pub form_executed : word_at s core mode_at ≡ linked → IsForm form → {mem' s' cache' : List ℕ} {n : Counts} → Finished alone form cache mem' s' cache' n → FormExecuted alone cache core form mem' s' cache' (eqb n.raised 0)
+  pub form_executed : word_at s core mode_at ≡ linked → {mem' s' cache' : List ℕ} {n : Counts} → Finished alone (Some form) cache mem' s' cache' n → FormExecuted alone cache core form mem' s' cache' (eqb n.raised 0)
   unfolding given_from given_step scheduled fast_form plain_after
-  form_executed m f {mem'} {s'} {cache'} {n} e =
-      let some : eqb form 0 ≡ false = rw f.decodes (ne_eqb (decode f.word) 0 (decode_filled f.word)) in
-      let q : fast_of mem' s' cache' n ≡ fast_form (board_of alone) (fast_of mem s cache no_counts) core form = e.left ∙ rw (eq-eqb (word_at s core mode_at) linked m, some) in
+  form_executed m {mem'} {s'} {cache'} {n} e =
+      let q : fast_of mem' s' cache' n ≡ fast_form (board_of alone) (fast_of mem s cache no_counts) core form = e.left ∙ rw (eq-eqb (word_at s core mode_at) linked m) in
       record {
         memory = ap (λ (x : Fast). x.plain.memory) q;
         states = ap (λ (x : Fast). x.plain.states) q;

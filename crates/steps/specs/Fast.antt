@@ -5,7 +5,7 @@ use Rattle.std.specs.Prelude.{List, ℕ, ◌+◌, get_or, set, if◌then◌else�
 use Rattle.effect.specs.Board.{Board}
 use Rattle.effect.specs.declared.types.Effect.{Effect}
 use Rattle.commit.specs.Commit.{writes_memory, touched, raised_by}
-use Rattle.decode_cache.specs.Cache.{filled, cached_form}
+use Rattle.decode_cache.specs.Cache.{is_filled, filled, cached_form}
 use Rattle.semantics.specs.Meaning.{effect_of}
 use Rattle.pic.specs.Interrupt.{latched}
 use Rattle.steps.specs.Plain.{Plain, is_running, latching, fetched, is_fetch, unfetched, plain_after}
@@ -55,7 +55,7 @@ fast_step board x entry = if is_running x.plain.states entry.core then fast_entr
 unfoldable pub turn_of : Board → List ℕ → List ℕ → List ℕ → ℕ → Turn
 turn_of board mem s cache core =
     let k = fetched s core in
-    if is_fetch mem s core then Instruction (effect_of board mem s core (cached_form board mem cache k)).outcome (filled (get_or cache k 0)) else
+    if is_fetch mem s core then Instruction (effect_of board mem s core (cached_form board mem cache k)).outcome (is_filled (get_or cache k 0)) else
     Unfetched (unfetched s core).outcome
 
 -- the same of any entry
@@ -67,4 +67,4 @@ step_turn board mem s cache entry =
 abbrev pub counts_after : Counts → Turn → Counts
 counts_after n Idle = n
 counts_after n (Unfetched o) = record { executed = n.executed + 1; raised = n.raised + raised_by o; reused = n.reused }
-counts_after n (Instruction o u) = record { executed = n.executed + 1; raised = n.raised + raised_by o; reused = n.reused + u }
+counts_after n (Instruction o u) = record { executed = n.executed + 1; raised = n.raised + raised_by o; reused = n.reused + (if u then 1 else 0) }

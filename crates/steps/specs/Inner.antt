@@ -1,5 +1,8 @@
 -- What the parts of the step promise one another. Nothing here is the papers': Plain, Fast and History have that, and linked/specs/Linked has the linked cores.
-use Rattle.std.specs.Prelude.{Bool, ◌&&◌, not, List, [], ◌∷◌, ◌≡◌, ℕ, ◌+◌, ◌<◌, ◌≤◌, eqb, length, get_or, if◌then◌else◌}
+use Rattle.std.specs.Prelude.{Bool, false, ◌&&◌, List, [], ◌∷◌, ◌≡◌, ℕ, ◌+◌, ◌<◌, ◌≤◌, eqb, length, get_or, if◌then◌else◌}
+use Rattle.std.specs.declared.option.Option.{Option}
+use Rattle.std.specs.declared.option.Option.TheVariants.{None, Some}
+use Rattle.std.specs.Option.{is_some}
 use Rattle.isa.specs.InstructionSet.{decode}
 use Rattle.isa.specs.Vectors.{vector_count}
 use Rattle.effect.specs.State.{mode_at, picsr_at, linked, running}
@@ -25,7 +28,7 @@ use Rattle.steps.specs.declared.Start.{Start}
 use Rattle.steps.specs.declared.Start.TheVariants.{Interrupt, Execute}
 use Rattle.steps.specs.declared.Start.TheVariants as start
 use Rattle.steps.specs.declared.Turn.{Turn}
-use Rattle.steps.specs.declared.Turn.TheVariants.{Idle, Unfetched, Instruction}
+use Rattle.steps.specs.declared.Turn.TheVariants.{Instruction}
 
 -- ---- what is lent and the counts, as what a run has come to
 
@@ -37,12 +40,6 @@ abbrev pub history_of : Fast → History
 history_of x = record { cached = cached_at_first x.cache; reused = x.reused }
 
 -- ---- counts
-
--- a fetch is reused once at most
-abbrev pub ReusedOnce : Turn → Type 0
-ReusedOnce Idle = Unit
-ReusedOnce (Unfetched o) = Unit
-ReusedOnce (Instruction o u) = u ≤ 1
 
 -- an entry adds at most 1 to each
 pub record Grown (n n' : Counts) : Type 0 where
@@ -68,7 +65,7 @@ pub record Runnable (l : Lent) (cache : List ℕ) : Type 0 where
   pub backed : Backed cache l.memory
   pub right : Right (board_of l) cache l.memory
 
--- ---- a form that is given to linked cores, to be executed in place of a fetch; 0 if none is
+-- ---- a form that may be given to linked cores, to be executed in place of a fetch
 
 -- some word decodes to it
 pub record IsForm (form : ℕ) : Type 0 where
@@ -76,8 +73,11 @@ pub record IsForm (form : ℕ) : Type 0 where
   pub decodes : form ≡ decode word
 
 -- a linked core executes what is given
-abbrev pub is_given : List ℕ → ℕ → ℕ → Bool
-is_given s core form = eqb (word_at s core mode_at) linked && not (eqb form 0)
+abbrev pub is_linked : List ℕ → ℕ → Bool
+is_linked s core = eqb (word_at s core mode_at) linked
+
+abbrev pub is_given : List ℕ → ℕ → Option ℕ → Bool
+is_given s core given = is_linked s core && is_some given
 
 -- such an instruction: no word is fetched
 unfoldable pub fast_form : Board → Fast → ℕ → ℕ → Fast
@@ -86,42 +86,59 @@ fast_form board x core form =
     record { plain = plain_after board x.plain core e; cache = emptied e x.cache; reused = x.reused }
 
 abbrev pub form_turn : Board → List ℕ → List ℕ → ℕ → ℕ → Turn
-form_turn board mem s core form = Instruction (effect_of board mem s core form).outcome 0
+form_turn board mem s core form = Instruction (effect_of board mem s core form).outcome false
 
 -- an entry of the schedule, its core being given this form if it is linked
-unfoldable pub given_step : Board → ℕ → Fast → Scheduled → Fast
-given_step board form x entry = if is_given x.plain.states entry.core form then fast_form board x entry.core form else fast_step board x entry
+unfoldable pub given_step : Board → Option ℕ → Fast → Scheduled → Fast
+given_step board None x entry = fast_step board x entry
+given_step board (Some form) x entry = if is_linked x.plain.states entry.core then fast_form board x entry.core form else fast_step board x entry
 
-unfoldable pub given_turn : Board → List ℕ → List ℕ → List ℕ → Scheduled → ℕ → Turn
-given_turn board mem s cache entry form = if is_given s entry.core form then form_turn board mem s entry.core form else step_turn board mem s cache entry
+unfoldable pub given_turn : Board → List ℕ → List ℕ → List ℕ → Scheduled → Option ℕ → Turn
+given_turn board mem s cache entry None = step_turn board mem s cache entry
+given_turn board mem s cache entry (Some form) =
+    if is_linked s entry.core then form_turn board mem s entry.core form else step_turn board mem s cache entry
 
 -- "The schedule's entries go in order, each on what the last left."
-unfoldable pub given_from : Board → ℕ → List Scheduled → Fast → Fast
-given_from board form [] x = x
-given_from board form (entry ∷ more) x = given_from board form more (given_step board form x entry)
+unfoldable pub given_from : Board → Option ℕ → List Scheduled → Fast → Fast
+given_from board given [] x = x
+given_from board given (entry ∷ more) x = given_from board given more (given_step board given x entry)
 
 -- ---- what the code leaves
 
--- what is executed at pc is f, and the cache is then cache': a form that is given, or what is fetched
-abbrev pub Taken : Board → List ℕ → List ℕ → ℕ → ℕ → Fetched → List ℕ → Type 0
-Taken board mem cache pc form f cache' =
-    (f ≡ (if eqb form 0 then fetch_at board mem cache pc else record { entry = form; reused = 0 }))
-    × (cache' ≡ (if eqb form 0 then cache_after board mem cache pc else cache))
+-- what is executed at pc, and the cache then: a form that is given, or what is fetched
+abbrev pub taken : Board → List ℕ → List ℕ → ℕ → Option ℕ → Option Fetched
+taken board mem cache pc None = fetch_at board mem cache pc
+taken board mem cache pc (Some form) = Some (record { entry = form; reused = false })
 
--- the entry of a core that is not interrupted turned what is lent into mem', s' and cache', whatever the counts are, and hands up r
-pub record Entered (board : Board) (mem s cache : List ℕ) (core form : ℕ) (mem' s' cache' : List ℕ) (r : Turn) : Type 0 where
-  pub turn : r ≡ (if eqb form 0 then turn_of board mem s cache core else form_turn board mem s core form)
-  pub left : (n : Counts) → fast_of mem' s' cache' (counts_after n r)
-      ≡ (if eqb form 0 then fast_entry board (fast_of mem s cache n) core else fast_form board (fast_of mem s cache n) core form)
+abbrev pub cache_taken : Board → List ℕ → List ℕ → ℕ → Option ℕ → List ℕ
+cache_taken board mem cache pc None = cache_after board mem cache pc
+cache_taken board mem cache pc (Some form) = cache
+
+abbrev pub Taken : Board → List ℕ → List ℕ → ℕ → Option ℕ → Option Fetched → List ℕ → Type 0
+Taken board mem cache pc given f cache' = (f ≡ taken board mem cache pc given) × (cache' ≡ cache_taken board mem cache pc given)
+
+-- the entry of a core that is not interrupted: what it hands up, and what it leaves
+abbrev pub entered_turn : Board → List ℕ → List ℕ → List ℕ → ℕ → Option ℕ → Turn
+entered_turn board mem s cache core None = turn_of board mem s cache core
+entered_turn board mem s cache core (Some form) = form_turn board mem s core form
+
+abbrev pub entered : Board → Fast → ℕ → Option ℕ → Fast
+entered board x core None = fast_entry board x core
+entered board x core (Some form) = fast_form board x core form
+
+-- it turned what is lent into mem', s' and cache', whatever the counts are, and hands up r
+pub record Entered (board : Board) (mem s cache : List ℕ) (core : ℕ) (given : Option ℕ) (mem' s' cache' : List ℕ) (r : Turn) : Type 0 where
+  pub turn : r ≡ entered_turn board mem s cache core given
+  pub left : (n : Counts) → fast_of mem' s' cache' (counts_after n r) ≡ entered board (fast_of mem s cache n) core given
 
 -- the same of any entry of the schedule
-pub record Stepped (board : Board) (mem s cache : List ℕ) (entry : Scheduled) (form : ℕ) (mem' s' cache' : List ℕ) (r : Turn) : Type 0 where
-  pub turn : r ≡ given_turn board mem s cache entry form
-  pub left : (n : Counts) → fast_of mem' s' cache' (counts_after n r) ≡ given_step board form (fast_of mem s cache n) entry
+pub record Stepped (board : Board) (mem s cache : List ℕ) (entry : Scheduled) (given : Option ℕ) (mem' s' cache' : List ℕ) (r : Turn) : Type 0 where
+  pub turn : r ≡ given_turn board mem s cache entry given
+  pub left : (n : Counts) → fast_of mem' s' cache' (counts_after n r) ≡ given_step board given (fast_of mem s cache n) entry
 
 -- the schedule of l turned what is lent into mem', s' and cache', and its counts are n
-pub record Finished (l : Lent) (form : ℕ) (cache mem' s' cache' : List ℕ) (n : Counts) : Type 0 where
-  pub left : fast_of mem' s' cache' n ≡ given_from (board_of l) form (scheduled_by l) (fast_of l.memory l.states cache no_counts)
+pub record Finished (l : Lent) (given : Option ℕ) (cache mem' s' cache' : List ℕ) (n : Counts) : Type 0 where
+  pub left : fast_of mem' s' cache' n ≡ given_from (board_of l) given (scheduled_by l) (fast_of l.memory l.states cache no_counts)
   pub small : AtMost max_schedule n
 
 -- a linked core executed a form on what is lent, and r tells whether it completed
@@ -136,10 +153,10 @@ pub record FormExecuted (l : Lent) (cache : List ℕ) (core form : ℕ) (mem' s'
 abbrev pub begun : List ℕ → Scheduled → List ℕ
 begun s entry = if is_running s entry.core then latched s entry.core entry.lines else s
 
-abbrev pub start_of : List ℕ → Scheduled → ℕ → Start
-start_of s entry form =
-    if is_running s entry.core then (if is_interrupted (latched s entry.core entry.lines) entry.core then Interrupt else Execute 0) else
-    if is_given s entry.core form then Execute form else
+abbrev pub start_of : List ℕ → Scheduled → Option ℕ → Start
+start_of s entry given =
+    if is_running s entry.core then (if is_interrupted (latched s entry.core entry.lines) entry.core then Interrupt else Execute None) else
+    if is_given s entry.core given then Execute given else
     start.Idle
 
 -- ---- entries that nothing can interrupt

@@ -2,15 +2,16 @@
 ghost use Rattle.std.specs.Prelude.{◌≡◌, ◌-◌, ◌≤◌};
 ghost use Rattle.commit.specs.Commit.{raised_by};
 ghost use Rattle.refusal.specs.Refusal.{max_schedule};
-ghost use Rattle.steps.specs.Counts.{AtMost};
+ghost use Rattle.steps.specs.Counts.{AtMost, Addable, added_to};
 ghost use Rattle.steps.specs.Fast.{counts_after};
-ghost use Rattle.steps.specs.Inner.{ReusedOnce, Grown};
+ghost use Rattle.steps.specs.Inner.{Grown};
 
 use crate::Turn;
 use effect::types::Outcome;
+use std::ops::Add;
 
 // How many entries were executed, how many of them raised an exception, and how many found their word in the decode cache.
-#[derive(Clone, Copy)]
+#[derive(Clone, Copy, Default)]
 pub struct Counts {
     pub executed: u32,
     pub raised: u32,
@@ -24,23 +25,41 @@ fn raised_by(outcome: Outcome) -> u32
     outcome.is_err() as u32
 }
 
-// The counts after one more entry of the schedule.
-pub fn counted(counts: Counts, turn: Turn) -> Counts
-    requires at_most { AtMost (max_schedule - 1) counts }
-    requires reused_once { ReusedOnce turn }
-    ensures { (result ≡ counts_after counts turn) × Grown counts result }
-{
-    match turn {
-        Turn::Idle => counts,
-        Turn::Unfetched(outcome) => Counts {
-            executed: counts.executed + 1,
-            raised: counts.raised + raised_by(outcome),
-            reused: counts.reused,
-        },
-        Turn::Instruction(outcome, reused) => Counts {
-            executed: counts.executed + 1,
-            raised: counts.raised + raised_by(outcome),
-            reused: counts.reused + reused,
-        },
+impl Counts {
+    // The counts after one more entry of the schedule.
+    pub fn after(self, turn: Turn) -> Counts
+        requires { AtMost (max_schedule - 1) self }
+        ensures { (result ≡ counts_after self turn) × Grown self result }
+    {
+        match turn {
+            Turn::Idle => self,
+            Turn::Unfetched(outcome) => Counts {
+                executed: self.executed + 1,
+                raised: self.raised + raised_by(outcome),
+                reused: self.reused,
+            },
+            Turn::Instruction(outcome, reused) => Counts {
+                executed: self.executed + 1,
+                raised: self.raised + raised_by(outcome),
+                reused: self.reused + u32::from(reused),
+            },
+        }
+    }
+}
+
+// The counts of both.
+impl Add for Counts {
+    type Output = Counts;
+
+    ghost can_add = { λ n m. Addable n m };
+
+    ghost add_gives = { λ n m r. r ≡ added_to n m };
+
+    fn add(self, more: Counts) -> Counts {
+        Counts {
+            executed: self.executed + more.executed,
+            raised: self.raised + more.raised,
+            reused: self.reused + more.reused,
+        }
     }
 }

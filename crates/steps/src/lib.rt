@@ -1,6 +1,8 @@
 #![tactic(auto)]
 // One loop for both runs: the entries of a schedule, with a decode cache that may be empty.
 ghost use Rattle.std.specs.Prelude.{false, [], ◌∷◌, ◌≡◌, ◌+◌, ◌*◌, ◌%◌, ◌≤◌, ◌<◌, length};
+ghost use Rattle.std.specs.declared.option.Option.TheVariants.{None};
+ghost use Rattle.std.specs.Option.{IfSome};
 ghost use Rattle.isa.specs.Vectors.{vector_count};
 ghost use Rattle.effect.specs.Board.{board_with};
 ghost use Rattle.effect.specs.State.{state_words, pc_at, mode_at, linked};
@@ -16,7 +18,6 @@ use effect::types::{Board, Outcome};
 
 pub mod counts;
 pub mod form;
-pub mod index;
 
 // An entry of the schedule: its core, and the levels of the lines.
 #[derive(Clone, Copy)]
@@ -32,8 +33,8 @@ pub enum Turn {
     Idle,
     // No word is fetched, since an interrupt is taken or PC is outside memory: how the step ends.
     Unfetched(Outcome),
-    // A word is fetched: how its instruction ends, and 1 if its entry was filled.
-    Instruction(Outcome, u32),
+    // A word is fetched: how its instruction ends, and whether its entry was filled.
+    Instruction(Outcome, bool),
 }
 
 // One instruction of a core that is not interrupted: how it ends. A filled entry of the cache is executed as it stands, whatever word memory holds there; so is a
@@ -45,46 +46,43 @@ fn instruction(
     states: &mut [u32],
     cache: &mut [u64],
     core: usize,
-    form: u64,
+    given: Option<u64>,
 ) -> Turn
     requires state_words_in_bounds { core * state_words + state_words ≤ length states.old }
     requires core_bound { core < 4 }
-    requires not_interrupted { form ≡ 0 → is_interrupted states.old core ≡ false }
+    requires not_interrupted { given ≡ None → is_interrupted states.old core ≡ false }
     requires backed { Backed cache.old memory.old }
     requires pc_aligned { word_at states.old core pc_at % 4 ≡ 0 }
     requires vectors_len { length vectors.now ≡ vector_count }
-    ensures { Entered (board_with board vectors.now) memory.old states.old cache.old core form memory.new states.new cache.new result }
+    ensures { Entered (board_with board vectors.now) memory.old states.old cache.old core given memory.new states.new cache.new result }
 {
-    let base = core * state::STATE_WORDS;
-    let pc = crate::index::of_u32(states[base + state::PC]);
-    let f = crate::form::next(memory, cache, pc, form);
-    if f.entry == 0 {
+    let pc = states[core * state::STATE_WORDS + state::PC] as usize;
+    let Some(f) = crate::form::next(memory, cache, pc, given) else {
         return Turn::Unfetched(exec::fetch_fault(vectors, states, core));
-    }
+    };
     let done = exec::execute(board, vectors, memory, states, core, f.entry);
     decode_cache::empty_touched(cache, done);
-    let outcome = done.outcome;
-    Turn::Instruction(outcome, f.reused)
+    Turn::Instruction(done.outcome, f.reused)
 }
 
-// How an entry of the schedule begins: its core does nothing, is interrupted, or executes a form (0: the one that it fetches).
+// How an entry of the schedule begins: its core does nothing, is interrupted, or executes: a form that it is given, or what it fetches.
 #[derive(Clone, Copy)]
 pub enum Start {
     Idle,
     Interrupt,
-    Execute(u64),
+    Execute(Option<u64>),
 }
 
 // Latches the lines of a running core. One in the mode `straight` runs and nothing can interrupt it, so most entries need no test but that of the mode. A linked
 // core executes what is given, if anything is.
-fn begin(states: &mut [u32], entry: Scheduled, straight: u32, given: u64) -> Start
+fn begin(states: &mut [u32], entry: Scheduled, straight: u32, given: Option<u64>) -> Start
     requires state_words_in_bounds { entry.core * state_words + state_words ≤ length states.old }
     requires undisturbed { word_at states.old entry.core mode_at ≡ straight → Undisturbed states.old entry }
     ensures { (states.new ≡ begun states.old entry) × (result ≡ start_of states.old entry given) }
 {
     let mode = states[entry.core * state::STATE_WORDS + state::MODE];
     if mode == straight {
-        return Start::Execute(0);
+        return Start::Execute(None);
     }
     if crate::form::is_given(mode, given) {
         return Start::Execute(given);
@@ -95,7 +93,7 @@ fn begin(states: &mut [u32], entry: Scheduled, straight: u32, given: u64) -> Sta
     if pic::latch(states, entry.core, entry.lines) {
         return Start::Interrupt;
     }
-    Start::Execute(0)
+    Start::Execute(None)
 }
 
 // One entry of the schedule.
@@ -107,7 +105,7 @@ fn step(
     cache: &mut [u64],
     entry: Scheduled,
     straight: u32,
-    given: u64,
+    given: Option<u64>,
 ) -> Turn
     requires state_words_in_bounds { entry.core * state_words + state_words ≤ length states.old }
     requires core_bound { entry.core < 4 }
@@ -120,8 +118,8 @@ fn step(
     match begin(states, entry, straight, given) {
         Start::Idle => Turn::Idle,
         Start::Interrupt => Turn::Unfetched(pic::take(vectors, states, entry.core)),
-        Start::Execute(form) => instruction(
-            board, vectors, memory, states, cache, entry.core, form,
+        Start::Execute(given) => instruction(
+            board, vectors, memory, states, cache, entry.core, given,
         ),
     }
 }
@@ -130,6 +128,7 @@ fn step(
 const NO_MODE: u32 = 4;
 
 // The mode whose cores nothing can interrupt while these levels last: running, or none.
+#[tactic(auto, unfolding(crate::specs::Inner::straight_mode))]
 fn straight_mode(states: &[u32], levels: &[u32]) -> u32
     ensures { result ≡ straight_mode states.now levels.now }
 {
@@ -149,10 +148,10 @@ fn entries(
     limit: u32,
     vectors: &[u32],
     cache: &mut [u64],
-    given: u64,
+    given: Option<u64>,
 ) -> Counts
     requires runnable { Runnable (lent memory.old states.old schedule.now levels.now limit vectors.now) cache.old }
-    requires form { (given ≡ 0 → ⊥) → IsForm given }
+    requires form { IfSome given IsForm }
     ensures { Finished (lent memory.old states.old schedule.now levels.now limit vectors.now) given cache.old memory.new states.new cache.new result }
 {
     let cores = states.len() / state::STATE_WORDS;
@@ -161,22 +160,16 @@ fn entries(
         limit,
     };
     let straight = straight_mode(states, levels);
-    let mut counts = Counts {
-        executed: 0,
-        raised: 0,
-        reused: 0,
-    };
-    let mut i = 0;
-    while i < schedule.len() {
+    let mut counts = Counts::default();
+    for i in 0..schedule.len() {
         let entry = Scheduled {
-            core: crate::index::of_u8(schedule[i]),
+            core: usize::from(schedule[i]),
             lines: levels[i],
         };
         let turn = step(
             board, vectors, memory, states, cache, entry, straight, given,
         );
-        counts = counts::counted(counts, turn);
-        i += 1;
+        counts = counts.after(turn);
     }
     counts
 }
@@ -192,9 +185,11 @@ pub fn run(
     cache: &mut [u64],
 ) -> Counts
     requires { Runnable (lent memory.old states.old schedule.now levels.now limit vectors.now) cache.old }
-    ensures { Finished (lent memory.old states.old schedule.now levels.now limit vectors.now) 0 cache.old memory.new states.new cache.new result }
+    ensures { Finished (lent memory.old states.old schedule.now levels.now limit vectors.now) None cache.old memory.new states.new cache.new result }
 {
-    entries(memory, states, schedule, levels, limit, vectors, cache, 0)
+    entries(
+        memory, states, schedule, levels, limit, vectors, cache, None,
+    )
 }
 
 // A linked core executes a form as it stands; whether it completes.
@@ -212,8 +207,7 @@ pub fn execute_form(
     requires form { IsForm form }
     ensures { FormExecuted (lent memory.old states.old (core ∷ []) (0 ∷ []) limit vectors.now) cache.old core form memory.new states.new cache.new result }
 {
-    let one = [core; 1];
-    let low = [0u32; 1];
-    let counts = entries(memory, states, &one, &low, limit, vectors, cache, form);
+    let given = Some(form);
+    let counts = entries(memory, states, &[core], &[0], limit, vectors, cache, given);
     counts.raised == 0
 }

@@ -1,34 +1,32 @@
-use Prim.Native.Nat.{◌+◌, ◌-◌, ◌*◌, ◌^◌, ◌<◌}
+use mathlib.Core.Path.{◌≡◌}
+use mathlib.Core.List.{◌++◌}
+use Prim.Native.Nat.{◌^◌, ◌<◌}
 use native.Mathlib.Omega.{arith}
-use Rattle.effect.specs.Board.{board_with}
-use Rattle.effect.specs.State.{state_words}
-use borrow.Rule.Slice.PartMut.{same_len_mid}
-use Rattle.exec.proofs.Executes.{executed_kept, executed_stored, performed_here, committed_here}
+use lib.ListN.{drop}
+use Rattle.std.proofs.Common.{rules}
+use Rattle.effect.specs.Board.{board_of_code}
+use Rattle.effect.specs.State.{state_words, own_words, with_own_words}
+use Rattle.exec.proofs.Executes.{kept_here, stored_here}
 use Rattle.exec.proofs.execute.Goals as goal
 
-pub returns-then-done : goal.returns-then-done
-returns-then-done c =
+pub returns-in-Some : goal.returns-in-Some
+returns-in-Some c =
     let a = c.args in
-    let b = board_with a.board a.vectors.now in
     let s = a.states.now in
-    let n = a.core * state_words + state_words - a.core * state_words in
     let done = c.perform-done in
-    let h = c.requires.state_words_in_bounds in
     let f : a.entry < 2 ^ 64 = omega (arith, c.ranges) in
-    let p = performed_here b a.memory.now s a.core a.entry h f n (omega arith) done.ensures in
-    let own = committed_here b a.memory.now s a.core a.entry h f n (omega arith) done.ensures in
-    executed_stored s a.core p own c.if-done.true (same_len_mid (a.core * state_words) n s done.new.own done.auto.own)
-    c.clear_links.ensures
+    let o : c.unwrap-own.result.now ≡ own_words s a.core = search rules in
+    let split = c.split_at_mut-rest.result in
+    let t = split.0.now ++ (done.new.own ++ drop state_words split.1.now) in
+    let w : t ≡ with_own_words s a.core done.new.own = search rules in
+    stored_here s a.core c.requires o w (board_of_code a.board) a.memory.now a.entry f done.ensures c.in-Some.is c.clear_links.ensures
 
-pub returns-else-done : goal.returns-else-done
-returns-else-done c =
+pub returns-in_default : goal.returns-in_default
+returns-in_default c =
     let a = c.args in
-    let b = board_with a.board a.vectors.now in
     let s = a.states.now in
-    let n = a.core * state_words + state_words - a.core * state_words in
     let done = c.perform-done in
-    let h = c.requires.state_words_in_bounds in
     let f : a.entry < 2 ^ 64 = omega (arith, c.ranges) in
-    let p = performed_here b a.memory.now s a.core a.entry h f n (omega arith) done.ensures in
-    let own = committed_here b a.memory.now s a.core a.entry h f n (omega arith) done.ensures in
-    executed_kept s a.core p own c.if-done.false
+    let o : c.unwrap-own.result.now ≡ own_words s a.core = search rules in
+    let w : _ ≡ with_own_words s a.core done.new.own = search rules in
+    kept_here s a.core c.requires o w (board_of_code a.board) a.memory.now a.entry f done.ensures c.in_default.is

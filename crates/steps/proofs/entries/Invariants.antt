@@ -1,7 +1,6 @@
 use mathlib.Core.Bool.{true}
 use mathlib.Core.Path.{◌≡◌}
-use Prim.Native.Nat.{◌-◌, ◌≤◌}
-use lib.ListN.{length, drop}
+use lib.ListN.{drop}
 use Rattle.lawful.specs.Accepted.{AllAccepted}
 use Rattle.pic.specs.Inner.{is_quiet, NoneLatched}
 use Rattle.refusal.specs.Lent.{lent, board_of}
@@ -12,17 +11,11 @@ use Rattle.steps.proofs.entries.Given as goal
 
 abbrev pub invariant-loop-i : goal.invariant-loop-i
 invariant-loop-i l =
-    let base = board_of (lent l.initial.memory l.initial.states l.schedule l.levels l.limit l.vectors) in
-    (given_from base l.given (scheduled (drop l.i l.schedule) (drop l.i l.levels)) (fast_of l.memory l.states l.cache l.counts)
-    ≡ given_from base l.given (scheduled l.schedule l.levels) (fast_of l.initial.memory l.initial.states l.initial.cache no_counts))
-    × AtMost l.i l.counts
-    × (l.i ≤ length l.schedule)
-    × (length l.memory ≡ length l.initial.memory)
-    × (length l.states ≡ length l.initial.states)
-    × (length l.cache ≡ length l.initial.cache)
-    × AllAccepted base l.states
-    × Right base l.cache l.memory
-    × (is_quiet l.initial.states l.levels ≡ true → NoneLatched l.states)
-
-abbrev pub decreases-loop-i : goal.decreases-loop-i
-decreases-loop-i l = length l.schedule - l.i
+    let board = board_of (lent l.initial.memory l.initial.states l.schedule l.levels l.limit l.vectors) in record {
+      left : given_from board l.given (scheduled (drop l.i l.schedule) (drop l.i l.levels)) (fast_of l.memory l.states l.cache l.counts)
+          ≡ given_from board l.given (scheduled l.schedule l.levels) (fast_of l.initial.memory l.initial.states l.initial.cache no_counts);
+      small : AtMost l.i l.counts;
+      accepted : AllAccepted board l.states;
+      right : Right board l.cache l.memory;
+      unlatched : is_quiet l.initial.states l.levels ≡ true → NoneLatched l.states;
+    }

@@ -3,17 +3,15 @@ use Prim.Native.Nat.{ℕ, ◌%◌}
 use native.Mathlib.Omega.{arith}
 use Rattle.effect.specs.Board.{board_with}
 use Rattle.effect.specs.State.{pc_at}
-use Rattle.steps.proofs.Cases.{begun_word, begun_length, fetch_undisturbed, step_idle, step_interrupted, step_executed}
+use Rattle.steps.proofs.Cases.{begun_word, step_idle, step_interrupted, step_executed}
 use Rattle.steps.proofs.step.Goals as goal
 
-pub instruction-requires : goal.instruction-requires
-instruction-requires c =
+pub instruction-requires-clause-pc_aligned : goal.instruction-requires-clause-pc_aligned
+instruction-requires-clause-pc_aligned c =
     let a = c.args in
     let begin = c.begin.ensures in
-    let executes = sym c.in-Execute.is ∙ begin.1 in
-    let n = begun_length a.states.now a.entry a.given begin.0 in
     let pc = begun_word a.states.now a.entry a.given begin.0 pc_at (omega arith) (λ z. omega arith) in
-    record { state_words_in_bounds = omega (arith, n, c.requires.state_words_in_bounds); core_bound = c.requires.core_bound; not_interrupted = fetch_undisturbed a.states.now a.entry a.given begin.0 executes; backed = c.requires.backed; pc_aligned = ap (λ (p : ℕ). p % 4) pc ∙ c.requires.pc_aligned; vectors_len = c.requires.vectors_len }
+    ap (λ (p : ℕ). p % 4) pc ∙ c.requires.pc_aligned
 
 pub returns-in-Idle : goal.returns-in-Idle
 returns-in-Idle c =

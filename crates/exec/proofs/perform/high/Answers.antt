@@ -1,23 +1,10 @@
 use mathlib.Core.Path.{◌∙◌}
 use native.Mathlib.Omega.{arith}
-use Rattle.effect.specs.Board.{board_with}
+use Rattle.effect.specs.Board.{board_of_code}
 use Rattle.semantics.proofs.Groups.{is_compare}
-use Rattle.exec.proofs.Performs.{writable, writes}
+use Rattle.exec.proofs.Performs.{writable}
 use Rattle.exec.proofs.perform.high.Goals as goal
 
 pub write-requires : goal.write-requires
 write-requires c =
-    let w = writable (board_with c.args.board c.args.vectors.now) c.args.memory.now _ _ _ _ c.inputs_at.ensures _ (c.compare-w.ensures ∙ is_compare _ _ _ _ (omega arith, omega arith)) c.requires.own_state c.requires.vectors_len in record { own_state = w.0; place_lt_state_words = w.1.0; vectors_len = w.1.1 }
-
-pub returns-then-kind-lt-STORE : goal.returns-then-kind-lt-STORE
-returns-then-kind-lt-STORE c = c.immediate.ensures
-
-pub returns-then-kind-lt-COMPARE : goal.returns-then-kind-lt-COMPARE
-returns-then-kind-lt-COMPARE c = c.mid.ensures
-
-pub returns-then-kind-lt-CACHE : goal.returns-then-kind-lt-CACHE
-returns-then-kind-lt-CACHE c =
-    writes _ _ _ _ _ _ c.inputs_at.ensures _ (c.compare-w.ensures ∙ is_compare _ _ _ _ (omega arith, omega arith)) c.write.ensures
-
-pub returns-else-kind-lt-CACHE : goal.returns-else-kind-lt-CACHE
-returns-else-kind-lt-CACHE c = c.top.ensures
+    writable (board_of_code c.args.board) c.args.memory.now _ _ _ _ c.inputs_at.ensures _ (c.compare-w.ensures ∙ is_compare _ _ _ _ (omega arith, omega arith))

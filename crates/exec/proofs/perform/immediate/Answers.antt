@@ -1,30 +1,18 @@
 use mathlib.Core.Path.{◌∙◌}
 use native.Mathlib.Omega.{arith}
-use Rattle.effect.specs.Board.{board_with}
+use Rattle.effect.specs.Board.{board_of_code}
 use Rattle.semantics.proofs.Groups.{is_add_immediate, is_immediate, is_compare_immediate}
-use Rattle.exec.proofs.Performs.{committable, performs, writable, writes}
+use Rattle.exec.proofs.Performs.{committable, writable}
 use Rattle.exec.proofs.perform.immediate.Goals as goal
 
 pub advance-requires : goal.advance-requires
 advance-requires c =
-    let w = committable (board_with c.args.board c.args.vectors.now) c.args.memory.now _ _ _ _ c.inputs_at.ensures _ (c.add_immediate-action.ensures ∙ is_add_immediate _ _ _ _ (omega arith, omega arith)) c.requires.own_state c.requires.vectors_len in record { committable = w.0; vectors_len = w.1 }
+    committable (board_of_code c.args.board) c.args.memory.now _ _ _ _ c.inputs_at.ensures _ (c.add_immediate-action.ensures ∙ is_add_immediate _ _ _ _ (omega arith, omega arith))
 
 pub write-requires : goal.write-requires
 write-requires c =
-    let w = writable (board_with c.args.board c.args.vectors.now) c.args.memory.now _ _ _ _ c.inputs_at-else-kind-lt-IMMEDIATE.ensures _ (c.immediate-w.ensures ∙ is_immediate _ _ _ _ (omega arith, omega arith)) c.requires.own_state c.requires.vectors_len in record { own_state = w.0; place_lt_state_words = w.1.0; vectors_len = w.1.1 }
+    writable (board_of_code c.args.board) c.args.memory.now _ _ _ _ c.inputs_at-else-kind-lt-IMMEDIATE.ensures _ (c.immediate-w.ensures ∙ is_immediate _ _ _ _ (omega arith, omega arith))
 
 pub write-requires-else-kind-lt-COMPARE_IMMEDIATE : goal.write-requires-else-kind-lt-COMPARE_IMMEDIATE
 write-requires-else-kind-lt-COMPARE_IMMEDIATE c =
-    let w = writable (board_with c.args.board c.args.vectors.now) c.args.memory.now _ _ _ _ c.inputs_at-else-kind-lt-COMPARE_IMMEDIATE.ensures _ (c.compare_immediate-w.ensures ∙ is_compare_immediate _ _ _ _ (omega arith, omega arith)) c.requires.own_state c.requires.vectors_len in record { own_state = w.0; place_lt_state_words = w.1.0; vectors_len = w.1.1 }
-
-pub returns-then-kind-lt-IMMEDIATE : goal.returns-then-kind-lt-IMMEDIATE
-returns-then-kind-lt-IMMEDIATE c =
-    performs _ _ _ _ _ _ c.inputs_at.ensures _ (c.add_immediate-action.ensures ∙ is_add_immediate _ _ _ _ (omega arith, omega arith)) c.advance.ensures
-
-pub returns-else-kind-lt-IMMEDIATE : goal.returns-else-kind-lt-IMMEDIATE
-returns-else-kind-lt-IMMEDIATE c =
-    writes _ _ _ _ _ _ c.inputs_at-else-kind-lt-IMMEDIATE.ensures _ (c.immediate-w.ensures ∙ is_immediate _ _ _ _ (omega arith, omega arith)) c.write.ensures
-
-pub returns-else-kind-lt-COMPARE_IMMEDIATE : goal.returns-else-kind-lt-COMPARE_IMMEDIATE
-returns-else-kind-lt-COMPARE_IMMEDIATE c =
-    writes _ _ _ _ _ _ c.inputs_at-else-kind-lt-COMPARE_IMMEDIATE.ensures _ (c.compare_immediate-w.ensures ∙ is_compare_immediate _ _ _ _ (omega arith, omega arith)) c.write-else-kind-lt-COMPARE_IMMEDIATE.ensures
+    writable (board_of_code c.args.board) c.args.memory.now _ _ _ _ c.inputs_at-else-kind-lt-COMPARE_IMMEDIATE.ensures _ (c.compare_immediate-w.ensures ∙ is_compare_immediate _ _ _ _ (omega arith, omega arith))

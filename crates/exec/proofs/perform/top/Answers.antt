@@ -1,22 +1,14 @@
 use mathlib.Core.Path.{◌∙◌}
 use native.Mathlib.Omega.{arith}
-use Rattle.effect.specs.Board.{board_with}
+use Rattle.effect.specs.Board.{board_of_code}
 use Rattle.semantics.proofs.Groups.{is_cache, is_product}
-use Rattle.exec.proofs.Performs.{committable, performs}
+use Rattle.exec.proofs.Performs.{committable}
 use Rattle.exec.proofs.perform.top.Goals as goal
 
 pub advance-requires : goal.advance-requires
 advance-requires c =
-    let w = committable (board_with c.args.board c.args.vectors.now) c.args.memory.now _ _ _ _ c.inputs_at.ensures _ (c.cache-action.ensures ∙ is_cache _ _ _ _ (omega arith, omega arith)) c.requires.own_state c.requires.vectors_len in record { committable = w.0; vectors_len = w.1 }
+    committable (board_of_code c.args.board) c.args.memory.now _ _ _ _ c.inputs_at.ensures _ (c.cache-action.ensures ∙ is_cache _ _ _ _ (omega arith, omega arith))
 
 pub advance-requires-else-kind-lt-PRODUCT : goal.advance-requires-else-kind-lt-PRODUCT
 advance-requires-else-kind-lt-PRODUCT c =
-    let w = committable (board_with c.args.board c.args.vectors.now) c.args.memory.now _ _ _ _ c.inputs_at-else-kind-lt-PRODUCT.ensures _ (c.product-action.ensures ∙ is_product _ _ _ _ (omega arith)) c.requires.own_state c.requires.vectors_len in record { committable = w.0; vectors_len = w.1 }
-
-pub returns-then-kind-lt-PRODUCT : goal.returns-then-kind-lt-PRODUCT
-returns-then-kind-lt-PRODUCT c =
-    performs _ _ _ _ _ _ c.inputs_at.ensures _ (c.cache-action.ensures ∙ is_cache _ _ _ _ (omega arith, omega arith)) c.advance.ensures
-
-pub returns-else-kind-lt-PRODUCT : goal.returns-else-kind-lt-PRODUCT
-returns-else-kind-lt-PRODUCT c =
-    performs _ _ _ _ _ _ c.inputs_at-else-kind-lt-PRODUCT.ensures _ (c.product-action.ensures ∙ is_product _ _ _ _ (omega arith)) c.advance-else-kind-lt-PRODUCT.ensures
+    committable (board_of_code c.args.board) c.args.memory.now _ _ _ _ c.inputs_at-else-kind-lt-PRODUCT.ensures _ (c.product-action.ensures ∙ is_product _ _ _ _ (omega arith))

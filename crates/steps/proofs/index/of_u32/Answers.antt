@@ -1,6 +1,0 @@
-use mathlib.Core.Path.{refl}
-use native.Mathlib.Omega.{arith}
-use Rattle.steps.proofs.index.of_u32.Goals as goal
-
-pub returns : goal.returns
-returns c = (refl, omega arith)
