@@ -9,7 +9,9 @@ use Rattle.arith.specs.Bit.{is_set, set_bit}
 use Rattle.arith.specs.Status.{F, OVE, allowed, aligned, set_carry_overflow}
 use Rattle.arith.specs.Sums.{address_sum}
 use Rattle.arith.specs.declared.Flagged.{Flagged}
-use Rattle.memory.specs.Memory.{loaded, no_limit, access}
+use Rattle.memory.specs.Memory.{bytes, loaded, no_limit, access}
+use Rattle.memory.specs.declared.Width.{Width}
+use Rattle.memory.specs.declared.Width.TheVariants.{Word}
 use Rattle.product.specs.declared.Accumulator.{Accumulator}
 use Rattle.effect.specs.State.{epcr_at, eear_at, esr_at, machi_at, maclo_at, picmr_at, picsr_at}
 use Rattle.effect.specs.Effect.{in_slot, advances, halting, faults, raises_range, jumping, returning, linking, saving, unlinking, accumulating, reading_accumulator}
@@ -130,21 +132,21 @@ load x mem n sign = reaches x n no_limit (length mem) (writes x (extend sign (8 
 unfoldable pub load_linked : Inputs → List ℕ → Effect
 load_linked x mem = reaches x 4 no_limit (length mem) (linking x x.d (loaded 4 mem (effective_address x)) (effective_address x))
 
--- the low n bytes of rB, at the address
-abbrev pub storing : Inputs → ℕ → Store
-storing x n = record { width = n; address = effective_address x; value = x.b }
+-- the low bytes of rB, as many as the width says, at the address
+abbrev pub storing : Inputs → Width → Store
+storing x w = record { width = w; address = effective_address x; value = x.b }
 
 -- Stores and l.swa. Document 02, note 5: "Any store or l.swa reaching below it raises bus error after alignment and before the link test, writes no memory and
 -- clears no other core's link." (An exception has no store, and the link is looked at by what the test grants.)
-unfoldable pub store : ℕ → Inputs → ℕ → ℕ → Effect
-store limit x len n = reaches x n limit len (saving x (storing x n))
+unfoldable pub store : ℕ → Inputs → ℕ → Width → Effect
+store limit x len w = reaches x (bytes w) limit len (saving x (storing x w))
 
 -- "l.swa, after both checks, stores and sets F if the link is to that word, else clears F; it clears its own link either way."
 abbrev pub linked : Inputs → Bool
 linked x = eqb x.link.held 1 && eqb x.link.address (effective_address x)
 
 unfoldable pub store_conditional : ℕ → Inputs → ℕ → Effect
-store_conditional limit x len = reaches x 4 limit len (unlinking x (linked x) (if linked x then Some (storing x 4) else None))
+store_conditional limit x len = reaches x 4 limit len (unlinking x (linked x) (if linked x then Some (storing x Word) else None))
 
 -- "p.* tests its one byte and does no more."
 unfoldable pub touch : Inputs → ℕ → Effect

@@ -1,8 +1,8 @@
 // Loads, stores and the cache instructions: each tests its access first. Stores and l.swa are held against the limit of what is read-only.
 ghost use Rattle.std.specs.Prelude.{◌≡◌, if◌then◌else◌};
-ghost use Rattle.bits.specs.Word.{bit};
-ghost use Rattle.memory.specs.Memory.{Width, bytes};
-ghost use Rattle.effect.specs.Effect.{unlinking, no_store};
+ghost use Rattle.memory.specs.Memory.{bytes};
+ghost use Rattle.memory.specs.declared.Width.TheVariants.{Word};
+ghost use Rattle.effect.specs.Effect.{unlinking};
 ghost use Rattle.effect.specs.Inner.{effect_by};
 ghost use Rattle.action.specs.Operations.{effective_address, load as load_of, load_linked, storing as storingOf, store as store_of, linked as linkedOf, store_conditional, touch as touch_of};
 
@@ -50,10 +50,10 @@ pub fn load_linked(x: Inputs, mem: &[u8]) -> Action
 }
 
 fn storing(x: Inputs, width: Width) -> Store
-    ensures { result ≡ storingOf x (bytes width) }
+    ensures { result ≡ storingOf x width }
 {
     Store {
-        width: width.bytes(),
+        width,
         address: address(x),
         value: x.b,
     }
@@ -61,7 +61,7 @@ fn storing(x: Inputs, width: Width) -> Store
 
 #[tactic(auto, unfolding(crate::specs::Operations::store, effect::specs::Inner::effect_by))]
 pub fn store(limit: u32, x: Inputs, len: usize, width: Width) -> Action
-    ensures { effect_by x result ≡ store_of limit x len (bytes width) }
+    ensures { effect_by x result ≡ store_of limit x len width }
 {
     let at = address(x);
     match memory::test(limit, len, at, width) {
@@ -79,7 +79,7 @@ fn linked(x: Inputs) -> bool
 
 #[tactic(auto, unfolding(effect::specs::Inner::effect_by))]
 fn conditional(x: Inputs) -> Action
-    ensures { effect_by x result ≡ unlinking x (linkedOf x) (if linkedOf x then Some (storingOf x 4) else None) }
+    ensures { effect_by x result ≡ unlinking x (linkedOf x) (if linkedOf x then Some (storingOf x Word) else None) }
 {
     if linked(x) {
         return Action::SaveLinked(storing(x, Width::Word));

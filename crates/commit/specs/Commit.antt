@@ -4,7 +4,7 @@ use Rattle.std.specs.Prelude.{Bool, ◌&&◌, List, Option, Some, None, ℕ, zer
 use Rattle.isa.specs.declared.entry.Fields.{Fields}
 use Rattle.isa.specs.Vectors.{vector}
 use Rattle.isa.specs.declared.vectors.Cause.TheVariants.{Bus}
-use Rattle.memory.specs.Memory.{stored}
+use Rattle.memory.specs.Memory.{bytes, stored}
 use Rattle.effect.specs.State.{state_words, pc_at, delay_at, target_at, sr_at, epcr_at, eear_at, esr_at, link_at, link_address_at, mode_at, machi_at, maclo_at, picmr_at, picsr_at}
 use Rattle.effect.specs.Effect.{faults, Outcome}
 use Rattle.effect.specs.declared.types.Inputs.{Inputs}
@@ -104,7 +104,7 @@ states_after vectors s core e =
 
 abbrev pub stored_by : Option Store → List ℕ → List ℕ
 stored_by None mem = mem
-stored_by (Some s) mem = stored s.width mem s.address s.value
+stored_by (Some s) mem = stored (bytes s.width) mem s.address s.value
 
 unfoldable pub memory_after : List ℕ → Effect → List ℕ
 memory_after mem e = stored_by e.store mem

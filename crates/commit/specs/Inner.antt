@@ -2,7 +2,7 @@
 use Rattle.std.specs.Prelude.{List, ◌≡◌, ℕ, ◌+◌, ◌<◌, ◌≤◌, get_or, Option, option_map, IfSome}
 use Rattle.isa.specs.Entry.{fields_of}
 use Rattle.isa.specs.declared.entry.Fields.{Fields}
-use Rattle.memory.specs.Memory.{Width}
+use Rattle.memory.specs.Memory.{bytes}
 use Rattle.effect.specs.State.{state_words}
 use Rattle.effect.specs.Inner.{effect_by}
 use Rattle.effect.specs.Effect.{Outcome}
@@ -50,7 +50,7 @@ pub record Performed (vectors mem own : List ℕ) (e : Effect) (mem' own' : List
 
 -- the bytes of a store, if there is one, are in a memory of len bytes
 abbrev pub Storable : ℕ → Option Store → Type 0
-Storable len s = IfSome s (λ s. Width s.width × (s.address + s.width ≤ len))
+Storable len s = IfSome s (λ s. s.address + bytes s.width ≤ len)
 
 -- so are an effect's, and it writes to a word of its core's state
 pub record Fits (len : ℕ) (e : Effect) : Type 0 where

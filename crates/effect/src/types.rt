@@ -1,5 +1,6 @@
 // What an instruction reads and what it does, by value.
 use isa::vectors::{COUNT, Cause};
+use memory::Width;
 use product::Accumulator;
 
 // Where execution goes on: the next instruction, whether it is in a delay slot, and where it goes after the slot.
@@ -20,7 +21,7 @@ pub struct Link {
 // The bytes that an instruction stores.
 #[derive(Clone, Copy)]
 pub struct Store {
-    pub width: u32,
+    pub width: Width,
     pub address: u32,
     pub value: u32,
 }

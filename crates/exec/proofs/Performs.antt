@@ -43,7 +43,7 @@ pub ruleset meant = (
 -- what a sound effect writes can be committed
 sound_storable : {board : Board} {len : ℕ} {s : Option Store} → SoundStore board len s → Storable len s
 sound_storable stores_none = tt
-sound_storable (stores_some w) = (w.wide, w.inside)
+sound_storable (stores_some w) = w.inside
 
 sound_fits : {board : Board} {len : ℕ} {e : Effect} → Sound board len e → Fits len e
 sound_fits h = record { place_lt = h.place_lt; storable = sound_storable h.sound_store }

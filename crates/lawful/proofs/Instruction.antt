@@ -13,7 +13,7 @@ use Rattle.isa.specs.Entry.{fields_of}
 use Rattle.isa.specs.Register.{Register}
 use Rattle.isa.specs.declared.entry.Fields.{Fields}
 use Rattle.isa.proofs.Registers.{fields_registers}
-use Rattle.memory.specs.Memory.{memory_word}
+use Rattle.memory.specs.Memory.{bytes, memory_word}
 use Rattle.memory.proofs.Laws.{length_stored, stored_outside, other_word_kept}
 use Rattle.effect.specs.State.{picsr_at}
 use Rattle.effect.specs.Board.{Board}
@@ -65,7 +65,7 @@ length_memory mem e = go e.store
   where
     go : (o : Option Store) → length (stored_by o mem) ≡ length mem
     go None = refl
-    go (Some s) = length_stored s.width mem s.address s.value
+    go (Some s) = length_stored (bytes s.width) mem s.address s.value
 
 pub no_store_kept : (mem : List ℕ) (e : Effect) → writes_memory e ≡ false → memory_after mem e ≡ mem
 unfolding memory_after
@@ -83,7 +83,7 @@ other_words_kept board mem e sound k n = go sound.sound_store n
   where
     go : {o : Option Store} → SoundStore board (length mem) o → (k ≡ word_of o → ⊥) → memory_word (stored_by o mem) k ≡ memory_word mem k
     go stores_none n = refl
-    go (stores_some {s} i) n = other_word_kept s.width mem s.address s.value k i.in_word n
+    go (stores_some {s} i) n = other_word_kept (bytes s.width) mem s.address s.value k i.in_word n
 
 -- every byte below the limit stays
 pub read_only_kept : (board : Board) (mem : List ℕ) (e : Effect) → Sound board (length mem) e → (j : ℕ) → j < board.limit
@@ -93,4 +93,4 @@ read_only_kept board mem e sound j h = go sound.sound_store
   where
     go : {o : Option Store} → SoundStore board (length mem) o → get_or (stored_by o mem) j 0 ≡ get_or mem j 0
     go stores_none = refl
-    go (stores_some {s} i) = stored_outside s.width mem s.address s.value j (λ p q. let a = i.above in omega arith)
+    go (stores_some {s} i) = stored_outside (bytes s.width) mem s.address s.value j (λ p q. let a = i.above in omega arith)

@@ -12,7 +12,7 @@ use Rattle.bits.proofs.Tests.{of_T, T_of}
 use Rattle.bits.proofs.Cases.{if_law, if_both, by_equality}
 use Rattle.arith.specs.Bit.{is_set}
 use Rattle.arith.specs.Status.{OVE}
-use Rattle.memory.specs.Memory.{no_limit}
+use Rattle.memory.specs.Memory.{bytes, no_limit}
 use Rattle.effect.specs.State.{state_words, pc_at, delay_at, target_at, sr_at, link_at, link_address_at, mode_at}
 use Rattle.effect.specs.Effect.{completed, no_store, in_slot, advances, raises, jumping, returning}
 use Rattle.effect.specs.Board.{Board}
@@ -60,7 +60,7 @@ apart_lines board mem x =
       of_return = if_both Apart (in_slot x) (apart tt) (apart tt);
       of_load = λ n sign. reaches_law Apart x n no_limit (length mem) (λ g. apart tt) (λ cause eear. apart tt);
       of_load_linked = reaches_law Apart x 4 no_limit (length mem) (λ g. apart tt) (λ cause eear. apart tt);
-      of_store = λ {n} w. reaches_law Apart x n board.limit (length mem) (λ g. apart tt) (λ cause eear. apart tt);
+      of_store = λ w. reaches_law Apart x (bytes w) board.limit (length mem) (λ g. apart tt) (λ cause eear. apart tt);
       of_store_conditional = reaches_law Apart x 4 board.limit (length mem) (λ g. apart tt) (λ cause eear. apart tt);
       of_touch = reaches_law Apart x 1 no_limit (length mem) (λ g. apart tt) (λ cause eear. apart tt);
       of_special = λ n v.

@@ -14,8 +14,10 @@ use Rattle.isa.specs.declared.vectors.Cause.TheVariants.{Alignment}
 use Rattle.arith.specs.Bit.{is_set}
 use Rattle.arith.specs.Status.{OVE}
 use Rattle.arith.specs.declared.Flagged.{Flagged}
-use Rattle.memory.specs.Memory.{Width, word_wide, no_limit, access}
-use Rattle.memory.proofs.Laws.{granted_above, granted_inside, granted_in_word}
+use Rattle.memory.specs.Memory.{bytes, no_limit, access}
+use Rattle.memory.specs.declared.Width.{Width}
+use Rattle.memory.specs.declared.Width.TheVariants.{Word}
+use Rattle.memory.proofs.Laws.{width_of, granted_above, granted_inside, granted_in_word}
 use Rattle.product.specs.declared.Accumulator.{Accumulator}
 use Rattle.effect.specs.State.{state_words, epcr_at, eear_at, esr_at, machi_at, maclo_at, picmr_at, picsr_at}
 use Rattle.effect.specs.Effect.{in_slot, advances, raises, faults, accumulating}
@@ -78,26 +80,25 @@ module _ (board : Board) (len : ℕ) (x : Inputs) where
   touch_sound = reaches_law (Sound board len) x 1 no_limit len (λ g. advances_sound 0 0 x.sr (omega arith)) faults_sound
 
   -- a granted access stores into one word
-  storing_in_word : {n : ℕ} → Width n → access n board.limit len (effective_address x) ≡ none → InWord board len (storing x n)
-  storing_in_word {n} w g =
+  storing_in_word : (w : Width) → access (bytes w) board.limit len (effective_address x) ≡ none → InWord board len (storing x w)
+  storing_in_word w g =
       let at = effective_address x in
       record {
-        wide = w;
-        above = granted_above n board.limit len at g;
-        inside = granted_inside n board.limit len at g;
-        in_word = granted_in_word n board.limit len at g w;
+        above = granted_above (bytes w) board.limit len at g;
+        inside = granted_inside (bytes w) board.limit len at g;
+        in_word = granted_in_word (bytes w) board.limit len at g (width_of w);
       }
 
-  pub store_sound : {n : ℕ} → Width n → Sound board len (store board.limit x len n)
+  pub store_sound : (w : Width) → Sound board len (store board.limit x len w)
   unfolding store
-  store_sound {n} w =
-      reaches_law (Sound board len) x n board.limit len (λ g. record { place_lt = omega arith; sound_store = stores_some (storing_in_word w g) }) faults_sound
+  store_sound w =
+      reaches_law (Sound board len) x (bytes w) board.limit len (λ g. record { place_lt = omega arith; sound_store = stores_some (storing_in_word w g) }) faults_sound
 
   pub store_conditional_sound : Sound board len (store_conditional board.limit x len)
   unfolding store_conditional
   store_conditional_sound =
       reaches_law (Sound board len) x 4 board.limit len
-      (λ g. record { place_lt = omega arith; sound_store = if_both (SoundStore board len) (linked x) (stores_some (storing_in_word word_wide g)) stores_none })
+      (λ g. record { place_lt = omega arith; sound_store = if_both (SoundStore board len) (linked x) (stores_some (storing_in_word Word g)) stores_none })
       faults_sound
 
   pub special_sound : (n v : ℕ) → Sound board len (sets_special_register x n v)

@@ -12,7 +12,8 @@ use Rattle.isa.specs.Register.{Register}
 use Rattle.isa.specs.Groups.{first_nop_movhi, first_control, first_load, first_add_immediate, first_immediate, first_compare_immediate, first_store, first_arithmetic, first_logic, first_compare, first_cache, first_product, IsBranch}
 use Rattle.arith.specs.declared.Flagged.{Flagged}
 use Rattle.product.specs.declared.Accumulator.{Accumulator}
-use Rattle.memory.specs.Memory.{Width, byte_wide, half_wide, word_wide}
+use Rattle.memory.specs.declared.Width.{Width}
+use Rattle.memory.specs.declared.Width.TheVariants.{Byte, Half, Word}
 use Rattle.effect.specs.declared.types.Inputs.{Inputs}
 use Rattle.effect.specs.Board.{Board}
 use Rattle.effect.specs.declared.types.Effect.{Effect}
@@ -38,7 +39,7 @@ pub record Lines (P : Effect → Type 0) (J : Type 0) (board : Board) (mem : Lis
   pub of_return : P (returns x)
   pub of_load : (n : ℕ) (sign : Bool) → P (load x mem n sign)
   pub of_load_linked : P (load_linked x mem)
-  pub of_store : {n : ℕ} → Width n → P (store board.limit x (length mem) n)
+  pub of_store : (w : Width) → P (store board.limit x (length mem) w)
   pub of_store_conditional : P (store_conditional board.limit x (length mem))
   pub of_touch : P (touch x (length mem))
   pub of_special : (n v : ℕ) → P (sets_special_register x n v)
@@ -105,9 +106,9 @@ module _ (P : Effect → Type 0) (J : Type 0) (board : Board) (mem : List ℕ) (
   stores_have k =
       if_both P (eqb k 43) (l.of_special _ _) (
       if_both P (eqb k 44) l.of_store_conditional (
-      if_both P (eqb k 45) (l.of_store word_wide) (
-      if_both P (eqb k 46) (l.of_store byte_wide) (
-      if_both P (eqb k 47) (l.of_store half_wide) l.of_illegal))))
+      if_both P (eqb k 45) (l.of_store Word) (
+      if_both P (eqb k 46) (l.of_store Byte) (
+      if_both P (eqb k 47) (l.of_store Half) l.of_illegal))))
 
   arithmetic_have : (k : ℕ) → P (arithmetic k x)
   unfolding arithmetic

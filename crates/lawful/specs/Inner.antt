@@ -5,7 +5,7 @@ use Rattle.isa.specs.Register.{Register}
 use Rattle.isa.specs.Vectors.{vector}
 use Rattle.isa.specs.declared.vectors.Cause.{Cause}
 use Rattle.arith.specs.Status.{allowed}
-use Rattle.memory.specs.Memory.{Width}
+use Rattle.memory.specs.Memory.{bytes}
 use Rattle.effect.specs.State.{state_words, pc_at, delay_at, target_at, sr_at, epcr_at, eear_at, esr_at, link_at, link_address_at, mode_at, machi_at, maclo_at, picmr_at, picsr_at, halted, linked, running}
 use Rattle.effect.specs.Effect.{Outcome}
 use Rattle.effect.specs.declared.types.Inputs.{Inputs}
@@ -104,10 +104,9 @@ pub record Lawful (picsr : ℕ) (e : Effect) : Type 0 where
 
 -- bytes in one word of a memory of len bytes, none below the board's limit
 pub record InWord (board : Board) (len : ℕ) (s : Store) : Type 0 where
-  pub wide : Width s.width
   pub above : board.limit ≤ s.address
-  pub inside : s.address + s.width ≤ len
-  pub in_word : s.address % 4 + s.width ≤ 4
+  pub inside : s.address + bytes s.width ≤ len
+  pub in_word : s.address % 4 + bytes s.width ≤ 4
 
 pub data SoundStore (board : Board) (len : ℕ) : Option Store → Type 0 where
   stores_none : SoundStore board len None

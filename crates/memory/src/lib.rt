@@ -2,7 +2,7 @@
 // Memory, high byte first: the test of an access, and loads and stores of 1, 2 or 4 bytes.
 ghost use Rattle.std.specs.Prelude.{◌≡◌, ◌+◌, ◌*◌, ◌<◌, ◌≤◌, ◌^◌, length};
 ghost use Rattle.bits.specs.Word.{extend};
-ghost use Rattle.memory.specs.Memory.{Width as IsWidth, bytes, loaded, stored, cause_of, access};
+ghost use Rattle.memory.specs.Memory.{bytes, loaded, stored, cause_of, access};
 
 use isa::vectors::Cause;
 
@@ -22,18 +22,6 @@ impl Width {
             Width::Byte => 1,
             Width::Half => 2,
             Width::Word => 4,
-        }
-    }
-
-    // The width of so many bytes.
-    pub fn of(n: u32) -> Width
-        requires { IsWidth n }
-        ensures { bytes result ≡ n }
-    {
-        match n {
-            1 => Width::Byte,
-            2 => Width::Half,
-            _ => Width::Word,
         }
     }
 }

@@ -13,6 +13,7 @@ use Rattle.arith.specs.Shift.{shift_left, shift_right, shift_right_signed, rotat
 use Rattle.arith.specs.Place.{least, greatest}
 use Rattle.product.specs.Product.{product, product_unsigned, quotient, quotient_unsigned}
 use Rattle.product.specs.Accumulate.{added, subtracted}
+use Rattle.memory.specs.declared.Width.TheVariants.{Byte, Half, Word}
 use Rattle.effect.specs.declared.types.Inputs.{Inputs}
 use Rattle.effect.specs.Board.{Board}
 use Rattle.effect.specs.declared.types.Effect.{Effect}
@@ -89,9 +90,9 @@ unfoldable pub stores : ℕ → ℕ → ℕ → Inputs → Effect
 stores limit len k x =
     if eqb k 43 then sets_special_register x (special_number x) x.b else  -- l.mtspr
     if eqb k 44 then store_conditional limit x len else  -- l.swa
-    if eqb k 45 then store limit x len 4 else  -- l.sw
-    if eqb k 46 then store limit x len 1 else  -- l.sb
-    if eqb k 47 then store limit x len 2 else  -- l.sh
+    if eqb k 45 then store limit x len Word else  -- l.sw
+    if eqb k 46 then store limit x len Byte else  -- l.sb
+    if eqb k 47 then store limit x len Half else  -- l.sh
     illegal x
 
 -- sums and differences of registers
