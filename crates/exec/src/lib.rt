@@ -1,12 +1,11 @@
 #![tactic(auto)]
 // An instruction on what is lent, or an exception in its place: its inputs are read, and what it does is committed.
 ghost use Rattle.std.specs.Prelude.{◌+◌, ◌*◌, ◌≤◌, length};
-ghost use Rattle.isa.specs.declared.vectors.Cause;
 ghost use Rattle.effect.specs.Board.{board_of_code};
-ghost use Rattle.effect.specs.State.{state_words, pc_at};
+ghost use Rattle.effect.specs.State.{state_words};
 ghost use Rattle.effect.specs.Effect.{faults};
-ghost use Rattle.commit.specs.Commit.{no_fields};
-ghost use Rattle.commit.specs.Inner.{own_word, own_inputs, Owned};
+ghost use Rattle.commit.specs.Commit.{no_fields, fetch_fault};
+ghost use Rattle.commit.specs.Inner.{own_inputs, Owned};
 ghost use Rattle.exec.specs.Inner.{Executes};
 
 use commit::Done;
@@ -52,8 +51,9 @@ pub fn raise(
 }
 
 // A fetch outside memory raises bus error.
+#[tactic(auto, unfolding(commit::specs::Commit::inputs, effect::specs::Effect::raises))]
 pub fn fetch_fault(vectors: &[u32; COUNT], own: &mut [u32; STATE_WORDS], core: u8) -> Outcome
-    ensures { Owned vectors.now own.old (faults (own_inputs own.old core no_fields) Cause.Bus (own_word own.old pc_at)) own.new result }
+    ensures { Owned vectors.now own.old (fetch_fault own.old 0) own.new result }
 {
     let fault = Faulted {
         cause: Cause::Bus,
