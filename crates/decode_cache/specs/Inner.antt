@@ -1,5 +1,5 @@
 -- Helper of the code: what a fetch answers, and what it leaves of the cache.
-use Rattle.std.specs.Prelude.{List, ℕ, ◌+◌, ◌*◌, ◌/◌, ◌≤◌, leb, length, get_or, set, if◌then◌else◌}
+use Rattle.std.specs.Prelude.{List, Option, Some, None, ℕ, ◌+◌, ◌*◌, ◌/◌, ◌≤◌, leb, length, get_or, set, if◌then◌else◌}
 use Rattle.effect.specs.Board.{Board}
 use Rattle.decode_cache.specs.Cache.{filled, cached_form}
 use Rattle.decode_cache.specs.declared.Fetched.{Fetched}
@@ -18,3 +18,8 @@ fetch_at board mem cache pc = if leb (pc + 4) (length mem) then fetched_of board
 
 abbrev pub cache_after : Board → List ℕ → List ℕ → ℕ → List ℕ
 cache_after board mem cache pc = if leb (pc + 4) (length mem) then set cache (pc / 4) (cached_form board mem cache (pc / 4)) else cache
+
+-- the cache after a store at an address, if there is one
+abbrev pub emptied_by : Option ℕ → List ℕ → List ℕ
+emptied_by None cache = cache
+emptied_by (Some at) cache = set cache (at / 4) 0

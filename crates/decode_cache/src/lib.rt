@@ -3,7 +3,7 @@
 ghost use Rattle.std.specs.Prelude.{◌≡◌, ◌+◌, ◌*◌, ◌/◌, ◌%◌, ◌^◌, ◌≤◌, ◌<◌, eqb, length, get_or, set, if◌then◌else◌};
 ghost use Rattle.effect.specs.Board.{Board};
 ghost use Rattle.decode_cache.specs.Cache.{form_at};
-ghost use Rattle.decode_cache.specs.Inner.{Backed, fetch_at, cache_after};
+ghost use Rattle.decode_cache.specs.Inner.{Backed, fetch_at, cache_after, emptied_by};
 
 use commit::Done;
 
@@ -84,9 +84,9 @@ pub fn peek(memory: &[u8], cache: &[u64], pc: usize) -> u64
 
 // A store empties the entry of the word that it touches.
 pub fn empty_touched(cache: &mut [u64], done: Done)
-    ensures { cache.new ≡ (if done.stored then set cache.old (done.address / 4) 0 else cache.old) }
+    ensures { cache.new ≡ emptied_by done.stored cache.old }
 {
-    if done.stored {
-        put_entry(cache, (done.address / 4) as usize, 0);
+    if let Some(address) = done.stored {
+        put_entry(cache, (address / 4) as usize, 0);
     }
 }

@@ -2,24 +2,25 @@
 use mathlib.Core.Bool.{Bool, true, false, not}
 use mathlib.Core.List.{List}
 use mathlib.Core.Path.{◌≡◌, refl, ap, sym, subst, ◌∙◌}
-use Prim.Native.Nat.{ℕ, ◌+◌, ◌/◌, ◌<◌, ◌≤◌, zero-le}
+use Prim.Native.Nat.{ℕ, ◌+◌, ◌<◌, ◌≤◌, zero-le}
 use native.Mathlib.Nat.{le_refl}
 use native.Mathlib.Omega.{arith}
 use lib.Dec.{T, eqb, eqb→eq}
 use lib.ListN.{length, get_or, set}
 use borrow.Author.Tests.{eq-eqb, ne_eqb, eqb-true, le-leb, lt-leb, not-true}
-use Rattle.std.specs.Prelude.{if◌then◌else◌}
+use Rattle.std.specs.Prelude.{Option, Some, None, option_map, is_some, if◌then◌else◌}
 use Rattle.bits.proofs.Cases.{if_both}
 use Rattle.bits.proofs.Tests.{and_left, and_right, T_of, of_T}
 use Rattle.effect.specs.State.{state_words, pc_at, mode_at, picsr_at, linked, running}
 use Rattle.effect.specs.Board.{Board}
 use Rattle.effect.specs.Effect.{no_store, Outcome}
 use Rattle.effect.specs.declared.types.Effect.{Effect}
-use Rattle.commit.specs.Commit.{word_at, fetch_fault}
+use Rattle.effect.specs.declared.types.Store.{Store}
+use Rattle.commit.specs.Commit.{word_at, fetch_fault, word_of}
 use Rattle.commit.specs.Inner.{tells}
 use Rattle.commit.specs.declared.Done.{Done}
 use Rattle.decode_cache.specs.Cache.{filled, cached_form}
-use Rattle.decode_cache.specs.Inner.{fetch_at, cache_after}
+use Rattle.decode_cache.specs.Inner.{fetch_at, cache_after, emptied_by}
 use Rattle.decode_cache.specs.declared.Fetched.{Fetched}
 use Rattle.semantics.specs.Meaning.{effect_of}
 use Rattle.exec.specs.Inner.{Executed}
@@ -70,6 +71,15 @@ module _ (board : Board) (mem c : List ℕ) (pc : ℕ) {form : ℕ} {f : Fetched
   pub taken_given : (form ≡ 0 → ⊥) → (f ≡ record { entry = form; reused = 0 }) × (c' ≡ c)
   taken_given n = (t.0 ∙ rw (ne_eqb form 0 n), t.1 ∙ rw (ne_eqb form 0 n))
 
+-- what the run is told of an instruction's store empties what its effect empties
+told_emptied : (c : List ℕ) {vectors mem s mem' s' : List ℕ} {core : ℕ} {e : Effect} {r : Done} → Executed vectors mem s core e mem' s' r → emptied_by r.stored c ≡ emptied e c
+unfolding emptied
+told_emptied c {e = e} x = ap (λ (d : Done). emptied_by d.stored c) x.done ∙ go e.store
+  where
+    go : (o : Option Store) → emptied_by (option_map (λ (s : Store). s.address) o) c ≡ (if is_some o then set c (word_of o) 0 else c)
+    go None = refl
+    go (Some s) = refl
+
 module _ (board : Board) (mem s c : List ℕ) (core : ℕ) where
   is_fetch_lem : is_interrupted s core ≡ false → word_at s core pc_at + 4 ≤ length mem → is_fetch mem s core ≡ true
   unfolding is_fetch
@@ -108,13 +118,13 @@ module _ (board : Board) (mem s c : List ℕ) (core : ℕ) where
   pub entered_inside : {k : ℕ} (c' : List ℕ) {mem' s' c'' : List ℕ} {r : Done} {u : ℕ} → k ≡ fetched s core
       → is_interrupted s core ≡ false → word_at s core pc_at + 4 ≤ length mem
       → c' ≡ set c k (cached_form board mem c k) → Executed board.vectors mem s core (effect_of board mem s core (cached_form board mem c k)) mem' s' r
-      → c'' ≡ (if r.stored then set c' (r.address / 4) 0 else c') → u ≡ filled (get_or c k 0)
+      → c'' ≡ emptied_by r.stored c' → u ≡ filled (get_or c k 0)
       → Entered board mem s c core 0 mem' s' c'' (Instruction r.outcome u)
-  unfolding fast_entry fast_fetch plain_after emptied turn_of
+  unfolding fast_entry fast_fetch plain_after turn_of
   entered_inside c' w h g p x t q =
       record {
         turn = rw (is_fetch_lem h g, q, x.done, w);
-        left = λ n. rw (is_fetch_lem h g, t, p, q, x.memory, x.states, x.done, w);
+        left = λ n. rw (is_fetch_lem h g, t, told_emptied c' x, p, q, x.memory, x.states, x.done, w);
       }
 
   -- 0 stands for what is fetched
@@ -123,12 +133,12 @@ module _ (board : Board) (mem s c : List ℕ) (core : ℕ) where
 
   -- a form is given
   pub entered_given : (form : ℕ) {mem' s' c'' : List ℕ} {r : Done} {u : ℕ} → (form ≡ 0 → ⊥) → Executed board.vectors mem s core (effect_of board mem s core form) mem' s' r
-      → c'' ≡ (if r.stored then set c (r.address / 4) 0 else c) → u ≡ 0 → Entered board mem s c core form mem' s' c'' (Instruction r.outcome u)
-  unfolding fast_form plain_after emptied
+      → c'' ≡ emptied_by r.stored c → u ≡ 0 → Entered board mem s c core form mem' s' c'' (Instruction r.outcome u)
+  unfolding fast_form plain_after
   entered_given form {u = u} n x t q =
       record {
         turn = rw (ne_eqb form 0 n, q, x.done);
-        left = λ m. let z : m.reused + u ≡ m.reused = omega arith in rw (ne_eqb form 0 n, z, t, x.memory, x.states, x.done);
+        left = λ m. let z : m.reused + u ≡ m.reused = omega arith in rw (ne_eqb form 0 n, z, t, told_emptied c x, x.memory, x.states, x.done);
       }
 
 -- ---- any entry
