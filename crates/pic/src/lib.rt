@@ -62,7 +62,6 @@ pub fn latch(own: &mut [u32; STATE_WORDS], lines: u32) -> bool
 }
 
 // Takes the interrupt, which leaves memory and keeps EEAR; answers how the step ends.
-#[tactic(auto, unfolding(commit::specs::Commit::inputs, effect::specs::Effect::raises))]
 pub fn take(vectors: &[u32; COUNT], own: &mut [u32; STATE_WORDS], core: u8) -> Outcome
     ensures { Owned vectors.now own.old (interruption own.old 0) own.new result }
 {
