@@ -29,3 +29,8 @@ cache_after board mem cache pc = if leb (pc + 4) (length mem) then set cache (pc
 -- the form alone
 abbrev pub form_fetched : Option Fetched → Option ℕ
 form_fetched f = option_map (λ f. f.entry) f
+
+-- the cache after a store at an address, if there is one
+abbrev pub emptied_by : Option ℕ → List ℕ → List ℕ
+emptied_by None cache = cache
+emptied_by (Some at) cache = set cache (at / 4) 0

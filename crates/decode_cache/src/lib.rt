@@ -1,9 +1,9 @@
 #![tactic(auto)]
 // The decode cache: what a fetch finds in it, and what a store empties. A word outside the cache is decoded each time.
-ghost use Rattle.std.specs.Prelude.{◌≡◌, ◌+◌, ◌*◌, ◌/◌, ◌%◌, ◌^◌, ◌≤◌, ◌<◌, length, set, if◌then◌else◌};
+ghost use Rattle.std.specs.Prelude.{◌≡◌, ◌+◌, ◌*◌, ◌/◌, ◌%◌, ◌^◌, ◌≤◌, ◌<◌, length, set};
 ghost use Rattle.effect.specs.Board.{Board};
 ghost use Rattle.decode_cache.specs.Cache.{form_at};
-ghost use Rattle.decode_cache.specs.Inner.{Backed, filled_at, fetch_at, form_fetched, cache_after};
+ghost use Rattle.decode_cache.specs.Inner.{Backed, filled_at, fetch_at, form_fetched, cache_after, emptied_by};
 
 use commit::Done;
 
@@ -83,9 +83,9 @@ pub fn peek(memory: &[u8], cache: &[u64], pc: usize) -> Option<u64>
 
 // A store empties the entry of the word that it touches.
 pub fn empty_touched(cache: &mut [u64], done: Done)
-    ensures { cache.new ≡ (if done.stored then set cache.old (done.address / 4) 0 else cache.old) }
+    ensures { cache.new ≡ emptied_by done.stored cache.old }
 {
-    if done.stored {
-        put_entry(cache, (done.address / 4) as usize, 0);
+    if let Some(address) = done.stored {
+        put_entry(cache, (address / 4) as usize, 0);
     }
 }

@@ -3,8 +3,9 @@ use mathlib.Core.Bool.{true, false}
 use mathlib.Core.List.{List}
 use mathlib.Core.Path.{◌≡◌, refl, sym, ap, ap₂, subst, ◌∙◌}
 use Prim.Native.Nat.{ℕ, ◌+◌, ◌*◌, ◌/◌, ◌^◌, ◌<◌, ◌≤◌}
+use native.Mathlib.Nat.{zero-add}
 use native.Mathlib.Omega.{arith}
-use lib.ListN.{length}
+use lib.ListN.{length, get_or}
 use Rattle.std.specs.Prelude.{Option, Some, None, option_map, is_some}
 use Rattle.bits.specs.Word.{field}
 use Rattle.isa.specs.Entry.{fields_of}
@@ -12,16 +13,16 @@ use Rattle.isa.specs.Register.{Registers}
 use Rattle.isa.specs.declared.vectors.Cause.{Cause}
 use Rattle.isa.proofs.Registers.{fields_registers}
 use Rattle.effect.specs.State.{state_words, own_words, with_own_words}
-use Rattle.effect.specs.Effect.{no_store, Outcome, raises, faults}
+use Rattle.effect.specs.Effect.{no_store, Outcome, raises, restart, faults}
 use Rattle.effect.specs.declared.types.Inputs.{Inputs}
 use Rattle.effect.specs.Board.{Board}
 use Rattle.effect.specs.declared.types.Effect.{Effect}
 use Rattle.effect.specs.declared.types.Store.{Store}
-use Rattle.commit.specs.Commit.{inputs, no_fields, own_state, clear_links, core_count, writes_memory, touched, word_of, states_after}
+use Rattle.commit.specs.Commit.{word_at, inputs, no_fields, own_state, clear_links, core_count, writes_memory, touched, word_of, states_after}
 use Rattle.commit.specs.Inner.{tells, own_inputs, entry_inputs, Owned, Performed}
 use Rattle.commit.specs.declared.Done.{Done}
 use Rattle.commit.proofs.Commits.{owned_as, performed_as, kept}
-use Rattle.commit.proofs.Own.{own_inputs_at, own_committed}
+use Rattle.commit.proofs.Own.{own_word_at, own_inputs_at, own_committed}
 use Rattle.semantics.specs.Meaning.{meaning, effect_of}
 use Rattle.lawful.proofs.Commit.{length_own}
 use Rattle.lawful.proofs.Sound.{meaning_sound}
@@ -101,16 +102,16 @@ module _ (s : List ℕ) (core : ℕ) (h : core * state_words + state_words ≤ l
         → Executed board.vectors mem s core (effect_of board mem s core entry) mem' s' r
     stored_here = executed_stored s core performed_here committed_here
 
-  -- an exception in an instruction's place
-  pub raised_here : (cause : Cause) {vectors : List ℕ} {eear eear' : ℕ} {r : Outcome} → Owned vectors own (faults (own_inputs own core no_fields) cause eear) own' r → eear ≡ eear'
-      → (mem : List ℕ) → Executed vectors mem s core (faults (inputs s core no_fields) cause eear') mem s₁ (tells r no_store)
-  unfolding raises
-  raised_here cause {vectors} {eear} {eear'} p q =
+  -- an exception in an instruction's place, with the word at a place in EEAR
+  pub raised_here : (cause : Cause) (place : ℕ) → place < state_words → {vectors : List ℕ} {r : Outcome}
+      → Owned vectors own (faults (inputs own 0 no_fields) cause (word_at own 0 place)) own' r
+      → (mem : List ℕ) → Executed vectors mem s core (faults (inputs s core no_fields) cause (word_at s core place)) mem s₁ (tells r no_store)
+  unfolding inputs raises restart
+  raised_here cause place l {vectors} {r} p =
+      let e' : Effect = faults (inputs s core no_fields) cause (word_at s core place) in
       let n : Registers no_fields = record { d = omega arith; a = omega arith; b = omega arith } in
-      let x : own_inputs own core no_fields ≡ inputs s core no_fields = ap (λ (own : List ℕ). own_inputs own core no_fields) o ∙ own_inputs_at s core h no_fields n in
-      let e = ap₂ (λ (x : Inputs) (eear : ℕ). faults x cause eear) x q in
-      let p = owned_as e p in
-      λ mem.
-      executed_kept s core (kept p refl mem)
-      (w ∙ own_committed s core h vectors (faults (inputs s core no_fields) cause eear') (omega arith) (p.left ∙ ap (λ (own : List ℕ). own_state vectors own 0 (faults (inputs s core no_fields) cause eear')) o))
-      refl
+      let x = ap (λ (own : List ℕ). own_inputs own core no_fields) o ∙ own_inputs_at s core h no_fields n in
+      let v = ap (λ (i : ℕ). get_or own i 0) (zero-add place) ∙ ap (λ (own : List ℕ). get_or own place 0) o ∙ own_word_at s core h place l in
+      let q : Owned vectors own (faults (own_inputs own core no_fields) cause (word_at own 0 place)) own' r = p in
+      let p = owned_as (ap₂ (λ (x : Inputs) (eear : ℕ). faults x cause eear) x v) q in
+      λ mem. executed_kept s core (kept p refl mem) (w ∙ own_committed s core h vectors e' (omega arith) (p.left ∙ ap (λ (own : List ℕ). own_state vectors own 0 e') o)) refl

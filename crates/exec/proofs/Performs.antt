@@ -2,6 +2,7 @@
 use mathlib.Core.List.{List}
 use mathlib.Core.Path.{◌≡◌, subst}
 use Prim.Native.Nat.{ℕ, ◌<◌}
+use lib.ListN.{length}
 use Rattle.std.specs.Prelude.{Option}
 use Rattle.isa.proofs.Registers.{fields_registers}
 use Rattle.effect.specs.State.{state_words}

@@ -1,12 +1,11 @@
 #![tactic(auto)]
 // An instruction on what is lent, or an exception in its place: its inputs are read, and what it does is committed.
 ghost use Rattle.std.specs.Prelude.{◌+◌, ◌*◌, ◌≤◌, length};
-ghost use Rattle.isa.specs.declared.vectors.Cause;
 ghost use Rattle.effect.specs.Board.{board_of_code};
-ghost use Rattle.effect.specs.State.{state_words, pc_at};
+ghost use Rattle.effect.specs.State.{state_words};
 ghost use Rattle.effect.specs.Effect.{faults};
-ghost use Rattle.commit.specs.Commit.{no_fields};
-ghost use Rattle.commit.specs.Inner.{own_word, own_inputs, Owned};
+ghost use Rattle.commit.specs.Commit.{inputs, no_fields, fetch_fault};
+ghost use Rattle.commit.specs.Inner.{Owned};
 ghost use Rattle.exec.specs.Inner.{Executes};
 
 use commit::Done;
@@ -45,7 +44,7 @@ pub fn raise(
     core: u8,
     fault: Faulted,
 ) -> Outcome
-    ensures { Owned vectors.now own.old (faults (own_inputs own.old core no_fields) fault.cause fault.eear) own.new result }
+    ensures { Owned vectors.now own.old (faults (inputs own.old 0 no_fields) fault.cause fault.eear) own.new result }
 {
     let x = commit::inputs::state_at(own, core);
     commit::own_state::commit_state(vectors, own, effects::fault_effect(x, fault))
@@ -53,7 +52,7 @@ pub fn raise(
 
 // A fetch outside memory raises bus error.
 pub fn fetch_fault(vectors: &[u32; COUNT], own: &mut [u32; STATE_WORDS], core: u8) -> Outcome
-    ensures { Owned vectors.now own.old (faults (own_inputs own.old core no_fields) Cause.Bus (own_word own.old pc_at)) own.new result }
+    ensures { Owned vectors.now own.old (fetch_fault own.old 0) own.new result }
 {
     let fault = Faulted {
         cause: Cause::Bus,

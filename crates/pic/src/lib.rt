@@ -2,40 +2,30 @@
 // The interrupt controller of document 001 (PIC): line levels are latched in PICSR, and what is latched there interrupts its core.
 ghost use Rattle.std.specs.List.{fold};
 ghost use Rattle.std.specs.Int.Bits.{bit_or};
-ghost use Rattle.std.specs.Prelude.{List, ◌≡◌, ℕ, ◌+◌, ◌*◌, ◌≤◌, ◌<◌, length};
-ghost use Rattle.isa.specs.Vectors.{vector_count};
-ghost use Rattle.effect.specs.State.{state_words};
-ghost use Rattle.effect.specs.Effect.{no_store};
-ghost use Rattle.commit.specs.Inner.{tells};
-ghost use Rattle.exec.specs.Inner.{Executed};
+ghost use Rattle.std.specs.Prelude.{◌≡◌};
+ghost use Rattle.commit.specs.Inner.{Owned};
 ghost use Rattle.pic.specs.Interrupt.{latched, is_interrupted, interruption};
 ghost use Rattle.pic.specs.Inner.{none_latched, is_quiet};
 
 use effect::state;
+use effect::state::STATE_WORDS;
 use effect::types::{Faulted, Outcome};
-use isa::vectors::Cause;
+use isa::vectors::{COUNT, Cause};
 
 // PICSR gains the lines that are high and not masked.
 #[tactic(auto, unfolding(crate::specs::Interrupt::latched))]
-fn gain(states: &mut [u32], core: usize, lines: u32)
-    requires { core * state_words + state_words ≤ length states.old }
-    ensures { states.new ≡ latched states.old core lines }
+fn gain(own: &mut [u32; STATE_WORDS], lines: u32)
+    ensures { own.new ≡ latched own.old 0 lines }
 {
-    let base = core * state::STATE_WORDS;
-    states[base + state::PICSR] = states[base + state::PICSR]
-        | (lines & states[base + state::PICMR]);
+    own[state::PICSR] = own[state::PICSR] | (lines & own[state::PICMR]);
 }
 
 // A line is latched, interrupts are enabled, and no slot is pending.
 #[tactic(auto, unfolding(crate::specs::Interrupt::is_interrupted))]
-fn interrupted(states: &[u32], core: usize) -> bool
-    requires { core * state_words + state_words ≤ length states.now }
-    ensures { result ≡ is_interrupted states.now core }
+fn interrupted(own: &[u32; STATE_WORDS]) -> bool
+    ensures { result ≡ is_interrupted own.now 0 }
 {
-    let base = core * state::STATE_WORDS;
-    states[base + state::PICSR] != 0
-        && arith::interrupts_enabled(states[base + state::SR])
-        && states[base + state::DELAY] == 0
+    own[state::PICSR] != 0 && arith::interrupts_enabled(own[state::SR]) && own[state::DELAY] == 0
 }
 
 // All lines that are high in any of the levels. A fold has no way out, so that the compiler makes vector code of it.
@@ -50,8 +40,8 @@ fn high(levels: &[u32]) -> u32
 fn none_latched(states: &[u32]) -> bool
     ensures { result ≡ none_latched states.now }
 {
-    let cores = states.len() / state::STATE_WORDS;
-    (0..cores).all(|core| states[core * state::STATE_WORDS + state::PICSR] == 0)
+    let cores = states.len() / STATE_WORDS;
+    (0..cores).all(|core| states[core * STATE_WORDS + state::PICSR] == 0)
 }
 
 // No line is high in any of the levels, and none is latched of any core. Then nothing can interrupt while their entries are run, since no instruction
@@ -64,24 +54,20 @@ pub fn quiet(states: &[u32], levels: &[u32]) -> bool
 }
 
 // Latches the lines of a running core's entry; answers whether an interrupt takes the place of its fetch.
-pub fn latch(states: &mut [u32], core: usize, lines: u32) -> bool
-    requires { core * state_words + state_words ≤ length states.old }
-    ensures { (states.new ≡ latched states.old core lines) × (result ≡ is_interrupted (latched states.old core lines) core) }
+pub fn latch(own: &mut [u32; STATE_WORDS], lines: u32) -> bool
+    ensures { (own.new ≡ latched own.old 0 lines) × (result ≡ is_interrupted (latched own.old 0 lines) 0) }
 {
-    gain(states, core, lines);
-    interrupted(states, core)
+    gain(own, lines);
+    interrupted(own)
 }
 
 // Takes the interrupt, which leaves memory and keeps EEAR; answers how the step ends.
-pub fn take(vectors: &[u32], states: &mut [u32], core: usize) -> Outcome
-    requires state_words_in_bounds { core * state_words + state_words ≤ length states.old }
-    requires core_bound { core < 4 }
-    requires vectors_len { length vectors.now ≡ vector_count }
-    ensures { (mem : List ℕ) → Executed vectors.now mem states.old core (interruption states.old core) mem states.new (tells result no_store) }
+pub fn take(vectors: &[u32; COUNT], own: &mut [u32; STATE_WORDS], core: u8) -> Outcome
+    ensures { Owned vectors.now own.old (interruption own.old 0) own.new result }
 {
     let fault = Faulted {
         cause: Cause::Interrupt,
-        eear: states[core * state::STATE_WORDS + state::EEAR],
+        eear: own[state::EEAR],
     };
-    exec::raise(vectors, states, core, fault)
+    exec::raise(vectors, own, core, fault)
 }

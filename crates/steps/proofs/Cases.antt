@@ -11,17 +11,19 @@ use borrow.Author.Tests.{eq-eqb, ne_eqb, eqb-true, le-leb, lt-leb}
 use Rattle.std.specs.Prelude.{if◌then◌else◌}
 use Rattle.std.specs.declared.option.Option.{Option}
 use Rattle.std.specs.declared.option.Option.TheVariants.{None, Some}
-use Rattle.std.specs.Option.{is_some}
+use Rattle.std.specs.Option.{is_some, option_map}
 use Rattle.bits.proofs.Cases.{if_both}
 use Rattle.bits.proofs.Tests.{and_left, and_right, T_of, of_T}
 use Rattle.effect.specs.State.{state_words, pc_at, mode_at, picsr_at, linked, running}
 use Rattle.effect.specs.Board.{Board}
 use Rattle.effect.specs.Effect.{no_store, Outcome}
 use Rattle.effect.specs.declared.types.Effect.{Effect}
-use Rattle.commit.specs.Commit.{word_at, fetch_fault}
+use Rattle.effect.specs.declared.types.Store.{Store}
+use Rattle.commit.specs.Commit.{word_at, fetch_fault, word_of}
 use Rattle.commit.specs.Inner.{tells}
 use Rattle.commit.specs.declared.Done.{Done}
 use Rattle.decode_cache.specs.Cache.{is_filled, filled, cached_form}
+use Rattle.decode_cache.specs.Inner.{emptied_by}
 use Rattle.decode_cache.specs.declared.Fetched.{Fetched}
 use Rattle.decode_cache.proofs.Fetches.{found_inside, found_outside}
 use Rattle.semantics.specs.Meaning.{effect_of}
@@ -56,6 +58,15 @@ pub grown : {n n' : Counts} (i : ℕ) → AtMost i n → Grown n n' → AtMost (
 grown i a g = record { executed_le = omega arith; raised_le = omega arith; reused_le = omega arith }
 
 -- ---- an entry of a core that is not interrupted
+
+-- what the run is told of an instruction's store empties what its effect empties
+told_emptied : (c : List ℕ) {vectors mem s mem' s' : List ℕ} {core : ℕ} {e : Effect} {r : Done} → Executed vectors mem s core e mem' s' r → emptied_by r.stored c ≡ emptied e c
+unfolding emptied
+told_emptied c {e = e} x = ap (λ (d : Done). emptied_by d.stored c) x.done ∙ go e.store
+  where
+    go : (o : Option Store) → emptied_by (option_map (λ (s : Store). s.address) o) c ≡ (if is_some o then set c (word_of o) 0 else c)
+    go None = refl
+    go (Some s) = refl
 
 module _ (board : Board) (mem s c : List ℕ) (core : ℕ) where
   is_fetch_lem : is_interrupted s core ≡ false → word_at s core pc_at + 4 ≤ length mem → is_fetch mem s core ≡ true
@@ -95,20 +106,20 @@ module _ (board : Board) (mem s c : List ℕ) (core : ℕ) where
   pub entered_inside : {k : ℕ} (c' : List ℕ) {mem' s' c'' : List ℕ} {r : Done} {u : Bool} → k ≡ fetched s core
       → is_interrupted s core ≡ false → word_at s core pc_at + 4 ≤ length mem
       → c' ≡ set c k (cached_form board mem c k) → Executed board.vectors mem s core (effect_of board mem s core (cached_form board mem c k)) mem' s' r
-      → c'' ≡ (if r.stored then set c' (r.address / 4) 0 else c') → u ≡ is_filled (get_or c k 0)
+      → c'' ≡ emptied_by r.stored c' → u ≡ is_filled (get_or c k 0)
       → Entered board mem s c core None mem' s' c'' (Instruction r.outcome u)
-  unfolding fast_entry fast_fetch plain_after emptied turn_of
+  unfolding fast_entry fast_fetch plain_after turn_of
   entered_inside c' w h g p x t q =
       record {
         turn = rw (is_fetch_lem h g, q, x.done, w);
-        left = λ n. rw (is_fetch_lem h g, t, p, q, x.memory, x.states, x.done, w);
+        left = λ n. rw (is_fetch_lem h g, t, told_emptied c' x, p, q, x.memory, x.states, x.done, w);
       }
 
   -- a form is given
   pub entered_given : (form : ℕ) {mem' s' c'' : List ℕ} {r : Done} → Executed board.vectors mem s core (effect_of board mem s core form) mem' s' r
-      → c'' ≡ (if r.stored then set c (r.address / 4) 0 else c) → Entered board mem s c core (Some form) mem' s' c'' (Instruction r.outcome false)
-  unfolding fast_form plain_after emptied
-  entered_given form x t = record { turn = rw x.done; left = λ m. rw (add-zero m.reused, t, x.memory, x.states, x.done) }
+      → c'' ≡ emptied_by r.stored c → Entered board mem s c core (Some form) mem' s' c'' (Instruction r.outcome false)
+  unfolding fast_form plain_after
+  entered_given form x t = record { turn = rw x.done; left = λ m. rw (add-zero m.reused, t, told_emptied c x, x.memory, x.states, x.done) }
 
   -- any, as the code goes: nothing to execute is found, or some form
   module _ (given : Option ℕ) (n : given ≡ None → is_interrupted s core ≡ false) where
@@ -124,7 +135,7 @@ module _ (board : Board) (mem s c : List ℕ) (core : ℕ) where
         by (Some form) n t = cc
 
     pub enters_inside : {f : Fetched} {c' : List ℕ} → Taken board mem c (word_at s core pc_at) given (Some f) c' → {mem' s' c'' : List ℕ} {r : Done}
-        → Executed board.vectors mem s core (effect_of board mem s core f.entry) mem' s' r → c'' ≡ (if r.stored then set c' (r.address / 4) 0 else c')
+        → Executed board.vectors mem s core (effect_of board mem s core f.entry) mem' s' r → c'' ≡ emptied_by r.stored c'
         → Entered board mem s c core given mem' s' c'' (Instruction r.outcome f.reused)
     enters_inside {f} {c'} t {mem'} {s'} {c''} {r} x e = by given n t
       where
