@@ -23,7 +23,8 @@ use Rattle.arith.specs.declared.Flagged.{Flagged}
 use Rattle.arith.proofs.Integer.{by_sign, sub_sub, sub_zero}
 use Rattle.arith.proofs.Status.{allowed_flag, allowed_carry_overflow, allowed_exception, allowed_again, aligned_multiple}
 use Rattle.arith.proofs.Sums.{address_sum_multiple}
-use Rattle.memory.specs.Memory.{no_limit}
+use Rattle.memory.specs.Memory.{bytes, no_limit}
+use Rattle.memory.specs.declared.Width.{Width}
 use Rattle.memory.proofs.Laws.{granted_aligned}
 use Rattle.product.specs.declared.Accumulator.{Accumulator}
 use Rattle.effect.specs.State.{epcr_at, eear_at, esr_at, machi_at, maclo_at, picmr_at, picsr_at}
@@ -200,10 +201,10 @@ module _ (x : Inputs) (i : LawfulInputs x) where
       is_running_lem)
       faults_lawful
 
-  pub store_lawful : (limit len n : ℕ) → Lawful x.picsr (store limit x len n)
+  pub store_lawful : (limit len : ℕ) (w : Width) → Lawful x.picsr (store limit x len w)
   unfolding store
-  store_lawful limit len n =
-      reaches_law (Lawful x.picsr) x n limit len
+  store_lawful limit len w =
+      reaches_law (Lawful x.picsr) x (bytes w) limit len
       (λ g. completed_lawful (to_register (omega arith)) i.sr_lawful onward_lawful i.link_lawful is_running_lem)
       faults_lawful
 
@@ -256,7 +257,7 @@ module _ (x : Inputs) (i : LawfulInputs x) where
         of_return = return_lawful;
         of_load = load_lawful mem;
         of_load_linked = load_linked_lawful mem;
-        of_store = λ w. store_lawful board.limit (length mem) _;
+        of_store = store_lawful board.limit (length mem);
         of_store_conditional = store_conditional_lawful board.limit (length mem);
         of_touch = touch_lawful (length mem);
         of_special = special_lawful;
