@@ -72,15 +72,15 @@ fn entry(
     let before = flow::of_core(states, 0);
     let form = decode_cache::peek(memory, cache, before.pc as usize);
     let counts = steps::run(memory, states, &[core], &[lines], limit, vectors, cache);
-    if was_shared(core, counts) {
-        let lead = Lead {
-            form: form.unwrap(),
-            before,
-            after: flow::of_core(states, 0),
-        };
-        followers(memory, states, limit, vectors, cache, lead);
+    if !was_shared(core, counts) {
         return counts;
     }
+    let lead = Lead {
+        form: form.unwrap(),
+        before,
+        after: flow::of_core(states, 0),
+    };
+    followers(memory, states, limit, vectors, cache, lead);
     counts
 }
 
