@@ -3,7 +3,7 @@
 ghost use Rattle.std.specs.Prelude.{◌≡◌, ◌+◌, ◌*◌, ◌/◌, ◌%◌, ◌^◌, ◌≤◌, ◌<◌, length, set};
 ghost use Rattle.effect.specs.Board.{Board};
 ghost use Rattle.decode_cache.specs.Cache.{form_at};
-ghost use Rattle.decode_cache.specs.Inner.{Backed, filled_at, fetch_at, form_fetched, cache_after, emptied_by};
+ghost use Rattle.decode_cache.specs.Inner.{Backed, filled_at, fetch_at, form_fetched, cache_after, emptied_by, form_of_fetch};
 
 use commit::Done;
 
@@ -69,7 +69,7 @@ pub fn fetch(memory: &[u8], cache: &mut [u64], pc: usize) -> Option<Fetched>
 // The form that a fetch at pc executes, if the word is inside memory. No entry is filled.
 pub fn peek(memory: &[u8], cache: &[u64], pc: usize) -> Option<u64>
     requires { pc < 2 ^ 32 }
-    ensures { (board : Board) → result ≡ form_fetched (fetch_at board memory.now cache.now pc) }
+    ensures { (board : Board) → result ≡ form_of_fetch (fetch_at board memory.now cache.now pc) }
 {
     if pc + 4 > memory.len() {
         return None;

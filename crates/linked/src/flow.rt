@@ -18,6 +18,7 @@ pub fn of_core(states: &[u32], core: usize) -> Flow
     }
 }
 
+#[tactic(auto, unfolding(crate::specs::Linked::with_flow))]
 pub fn put(states: &mut [u32], core: usize, flow: Flow)
     requires { core * state_words + state_words ≤ length states.old }
     ensures { states.new ≡ with_flow states.old core flow }

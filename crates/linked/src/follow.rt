@@ -18,18 +18,6 @@ pub struct Lead {
     pub after: Flow,
 }
 
-// Copies the words of one part over those of another.
-fn copy(from: &[u32], to: &mut [u32])
-    requires { length from.now ≡ length to.old }
-    ensures { to.new ≡ from.now }
-{
-    let mut i = 0;
-    while i < from.len() {
-        to[i] = from[i];
-        i += 1;
-    }
-}
-
 // An instruction on the core's own registers, with core 0's flow lent. If it raises, the core has its words back and is halted.
 fn execute(
     memory: &mut [u8],
@@ -47,14 +35,14 @@ fn execute(
     let base = core * state::STATE_WORDS;
     let end = base + state::STATE_WORDS;
     let mut own = [0u32; state::STATE_WORDS];
-    copy(&states[base..end], &mut own);
+    own.copy_from_slice(&states[base..end]);
     flow::put(states, core, lead.before);
     if steps::execute_form(memory, states, core as u8, limit, vectors, cache, lead.form) {
         flow::put(states, core, lead.after);
         modes::relink(states, core);
         return;
     }
-    copy(&own, &mut states[base..end]);
+    states[base..end].copy_from_slice(&own);
     modes::halt(states, core);
 }
 
