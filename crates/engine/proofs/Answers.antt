@@ -35,7 +35,7 @@ use Rattle.linked.specs.Run.{start, plain_run, history}
 use Rattle.linked.specs.Inner.{Finished}
 use Rattle.linked.proofs.Agree.{from_agrees, from_uncached, from_accepted}
 use Rattle.engine.specs.Answer.{cache_left, again, PlainAnswer, FastAnswer}
-use Rattle.engine.specs.declared.answer.Answer.TheVariants.{Ran, Refused}
+use Rattle.std.specs.Prelude.{Ok, Err}
 
 -- ---- what is not refused
 
@@ -130,7 +130,7 @@ none_small = record { executed_le = omega arith; raised_le = omega arith; reused
 
 module _ (l : Lent) where
   -- with an empty cache
-  pub plain_ran : (mem' s' cache' : List ℕ) (n : Counts) → plain_refusal l ≡ 0 → Finished l [] mem' s' cache' n → PlainAnswer l (left mem' s') (Ran n)
+  pub plain_ran : (mem' s' cache' : List ℕ) (n : Counts) → plain_refusal l ≡ 0 → Finished l [] mem' s' cache' n → PlainAnswer l (left mem' s') (Ok n)
   unfolding plain_run
   plain_ran mem' s' cache' n z e =
       let f = e.left ∙ from_uncached (board_of l) (scheduled_by l) (start l) 0 in
@@ -141,7 +141,7 @@ module _ (l : Lent) where
         small = e.small;
       }
 
-  pub plain_refused : (cause : Refusal) → refusal_number cause ≡ plain_refusal l → PlainAnswer l (left l.memory l.states) (Refused cause)
+  pub plain_refused : (cause : Refusal) → refusal_number cause ≡ plain_refusal l → PlainAnswer l (left l.memory l.states) (Err cause)
   plain_refused cause e = record {
     refusal = e;
     left = rw (ne_eqb (plain_refusal l) 0 (λ z. cause_number cause (e ∙ z)));
@@ -151,7 +151,7 @@ module _ (l : Lent) where
 
   module _ (cache : List ℕ) where
     pub fast_refused : (cause : Refusal) → refusal_number cause ≡ fast_refusal l cache
-        → FastAnswer l cache (left l.memory l.states) cache (Refused cause)
+        → FastAnswer l cache (left l.memory l.states) cache (Err cause)
     fast_refused cause e =
         let n : eqb (fast_refusal l cache) 0 ≡ false = ne_eqb (fast_refusal l cache) 0 (λ z. cause_number cause (e ∙ z)) in
         record {
@@ -165,7 +165,7 @@ module _ (l : Lent) where
 
     pub fast_ran : (mem' s' cache' : List ℕ) (n : Counts) → fast_refusal l cache ≡ 0 → Finished l cache mem' s' cache' n
         → length mem' ≡ length l.memory → length s' ≡ length l.states → length cache' ≡ length cache
-        → FastAnswer l cache (left mem' s') cache' (Ran n)
+        → FastAnswer l cache (left mem' s') cache' (Ok n)
     unfolding plain_run history cache_left
     fast_ran mem' s' cache' n z e p q r =
         let board = board_of l in
