@@ -94,6 +94,24 @@ module _ (vs : List ℕ) where
       by_answer true = refl
       by_answer false = refl
 
+-- what the answer says of a list of n
+module _ (vs : List ℕ) (n : ℕ) (l : length vs ≡ n) where
+  pub repeats_at : {i : ℕ} → repeat_in vs ≡ Some i → (are_distinct vs n ≡ false) × (first_repeat vs 0 n ≡ i)
+  unfolding repeat_in
+  repeats_at {i} e = go (are_distinct vs n) refl (rw l at e)
+    where
+      go : (b : Bool) → are_distinct vs n ≡ b → (if b then None else Some (first_repeat vs 0 n)) ≡ Some i → (are_distinct vs n ≡ false) × (first_repeat vs 0 n ≡ i)
+      go true d f = absurd cc
+      go false d f = (d, cc)
+
+  pub repeats_nowhere : repeat_in vs ≡ None → are_distinct vs n ≡ true
+  unfolding repeat_in
+  repeats_nowhere e = go (are_distinct vs n) refl (rw l at e)
+    where
+      go : (b : Bool) → are_distinct vs n ≡ b → (if b then None else Some (first_repeat vs 0 n)) ≡ None → are_distinct vs n ≡ true
+      go true d f = d
+      go false d f = absurd cc
+
 -- ---- tests of a list's first n as the library makes them
 
 neither : (a b : Bool) → not (a || b) ≡ not a && not b
