@@ -2,24 +2,11 @@
 // What programs in other languages call, by the crate host_c: plain numbers in and out.
 ghost use Rattle.std.specs.Prelude.{◌≡◌};
 ghost use Rattle.isa.specs.InstructionSet.{decode};
-ghost use Rattle.codec.specs.Encoding.{number as number_of};
 ghost use Rattle.refusal.specs.Lent.{lent, left};
 ghost use Rattle.host.specs.Interface.{Answers, PlainRun, FastRun};
 
-use codec::encoder::Encoded;
-
 // Refusal 8: no 32-bit word decodes to the entry.
 const NO_WORD: u64 = 0x1_0000_0000;
-
-// An answer of the encoder as one number.
-fn number(answer: Encoded) -> u64
-    ensures { result ≡ number_of answer }
-{
-    match answer {
-        Encoded::Word(w) => w as u64,
-        Encoded::Refused => NO_WORD,
-    }
-}
 
 pub fn or1k_decode(word: u32) -> u64
     ensures { result ≡ decode word }
@@ -30,7 +17,7 @@ pub fn or1k_decode(word: u32) -> u64
 pub fn or1k_encode(entry: u64) -> u64
     ensures { Answers entry result }
 {
-    number(codec::encoder::encode(entry))
+    codec::encoder::encode(entry).map_or(NO_WORD, u64::from)
 }
 
 pub fn or1k_plain_run(

@@ -1,12 +1,16 @@
 -- The rules on a list of vectors, as a loop tests them, and what a list that keeps them is good for. Assumes nothing.
-use mathlib.Core.Bool.{Bool, true, false, ◌&&◌, not}
+use mathlib.Core.Bool.{Bool, true, false, ◌&&◌, ◌||◌, not}
 use mathlib.Core.List.{List}
-use mathlib.Core.Path.{◌≡◌, refl, sym, ◌∙◌}
+use mathlib.Core.Path.{◌≡◌, refl, sym, ap, ◌∙◌}
 use Prim.Native.Nat.{ℕ, zero, suc, ◌+◌, ◌%◌, ◌≤◌, ◌<◌}
 use native.Mathlib.Numerals.{add-one}
 use native.Mathlib.Omega.{arith}
 use lib.Dec.{T, eqb, ltb, eqb→eq}
-use lib.ListN.{length, get_or}
+use lib.ListN.{length, get_or, take}
+use lib.Seq.{take-length}
+use Rattle.std.specs.Prelude.{Some, None, is_some, is_none}
+use Rattle.std.specs.List.{list_all, list_any}
+use Rattle.std.proofs.lemmas.List.Folds.{list_all_more, list_any_more}
 use Rattle.bits.specs.Every.{every_below}
 use Rattle.bits.proofs.Every.{below_at, of_below}
 use Rattle.std.specs.Prelude.{if◌then◌else◌}
@@ -16,7 +20,7 @@ use borrow.Author.Tests.{eq-eqb, ne_eqb}
 use Rattle.isa.specs.Vectors.{vector_count, old_vectors, vector}
 use Rattle.isa.specs.declared.vectors.Cause.{Cause}
 use Rattle.isa.specs.declared.vectors.Cause.TheVariants.{Bus, Alignment, Illegal, Range, Syscall, Trap, Interrupt}
-use Rattle.vector_list.specs.Rules.{vector_end, is_vector, is_new, first_repeat, are_distinct, vectors_fit}
+use Rattle.vector_list.specs.Rules.{vector_end, is_vector, is_new, first_repeat, are_distinct, repeat_in, vectors_fit}
 
 -- ---- the first repeat, place by place
 
@@ -72,6 +76,79 @@ module _ (vs : List ℕ) (n : ℕ) where
 
   pub distinct_first : are_distinct vs n ≡ eqb (first_repeat vs 0 n) n
   distinct_first = by_test (are_distinct vs n) refl
+
+module _ (vs : List ℕ) where
+  pub repeat_found : (i : ℕ) → first_repeat vs 0 (length vs) ≡ i → i < length vs → Some i ≡ repeat_in vs
+  unfolding repeat_in
+  repeat_found i e h = rw (distinct_first vs (length vs), e, ne_eqb i (length vs) (λ q. omega arith))
+
+  pub repeat_nowhere : first_repeat vs 0 (length vs) ≡ length vs → None ≡ repeat_in vs
+  unfolding repeat_in
+  repeat_nowhere e = rw (distinct_first vs (length vs), eq-eqb (first_repeat vs 0 (length vs)) (length vs) e)
+
+  none_repeated : is_none (repeat_in vs) ≡ are_distinct vs (length vs)
+  unfolding repeat_in
+  none_repeated = by_answer (are_distinct vs (length vs))
+    where
+      by_answer : (b : Bool) → is_none (if b then None else Some (first_repeat vs 0 (length vs))) ≡ b
+      by_answer true = refl
+      by_answer false = refl
+
+-- what the answer says of a list of n
+module _ (vs : List ℕ) (n : ℕ) (l : length vs ≡ n) where
+  pub repeats_at : {i : ℕ} → repeat_in vs ≡ Some i → (are_distinct vs n ≡ false) × (first_repeat vs 0 n ≡ i)
+  unfolding repeat_in
+  repeats_at {i} e = go (are_distinct vs n) refl (rw l at e)
+    where
+      go : (b : Bool) → are_distinct vs n ≡ b → (if b then None else Some (first_repeat vs 0 n)) ≡ Some i → (are_distinct vs n ≡ false) × (first_repeat vs 0 n ≡ i)
+      go true d f = absurd cc
+      go false d f = (d, cc)
+
+  pub repeats_nowhere : repeat_in vs ≡ None → are_distinct vs n ≡ true
+  unfolding repeat_in
+  repeats_nowhere e = go (are_distinct vs n) refl (rw l at e)
+    where
+      go : (b : Bool) → are_distinct vs n ≡ b → (if b then None else Some (first_repeat vs 0 n)) ≡ None → are_distinct vs n ≡ true
+      go true d f = d
+      go false d f = absurd cc
+
+-- ---- tests of a list's first n as the library makes them
+
+neither : (a b : Bool) → not (a || b) ≡ not a && not b
+neither true b = refl
+neither false b = refl
+
+module _ (p : ℕ → Bool) (xs : List ℕ) where
+  all_below : (n : ℕ) → n ≤ length xs → list_all p (take n xs) ≡ every_below n (λ i. p (get_or xs i 0))
+  unfolding every_below
+  all_below zero h = refl
+  all_below (suc n) h = rw (← add-one n) (list_all_more p xs n 0 h) ∙ ap (λ b. b && p (get_or xs n 0)) (all_below n (omega arith))
+
+  pub all_of : list_all p xs ≡ every_below (length xs) (λ i. p (get_or xs i 0))
+  all_of = ap (list_all p) (sym (take-length xs)) ∙ all_below (length xs) (omega arith)
+
+  none_below : (n : ℕ) → n ≤ length xs → not (list_any p (take n xs)) ≡ every_below n (λ i. not (p (get_or xs i 0)))
+  unfolding every_below
+  none_below zero h = refl
+  none_below (suc n) h =
+      rw (← add-one n) (ap not (list_any_more p xs n 0 h))
+      ∙ neither (list_any p (take n xs)) (p (get_or xs n 0))
+      ∙ ap (λ b. b && not (p (get_or xs n 0))) (none_below n (omega arith))
+
+pub new_by_search : (vs : List ℕ) (i : ℕ) → i < length vs → not (list_any (λ y. eqb y (get_or vs i 0)) (take i vs)) ≡ is_new vs i
+unfolding is_new
+new_by_search vs i h = none_below (λ y. eqb y (get_or vs i 0)) vs i (omega arith)
+
+flipped : (a b : Bool) → a ≡ not b → b ≡ not a
+flipped a true e = sym (ap not e)
+flipped a false e = sym (ap not e)
+
+-- seven addresses fit if none repeats
+pub fits_if_new : (vs : List ℕ) → length vs ≡ vector_count → list_all is_vector vs ≡ true → (b : Bool) → is_some (repeat_in vs) ≡ not b → b ≡ vectors_fit vs
+unfolding vectors_fit
+fits_if_new vs l a b e =
+    let f : every_below vector_count (λ i. is_vector (get_or vs i 0)) ≡ true = rw (← l) (sym (all_of is_vector vs) ∙ a) in
+    flipped _ b e ∙ none_repeated vs ∙ rw (l, f)
 
 -- ---- a list that keeps the rules
 

@@ -1,5 +1,5 @@
 -- The rules on a list of vectors: document 02, note 6.
-use Rattle.std.specs.Prelude.{Bool, ◌&&◌, not, List, ℕ, zero, suc, ◌+◌, ◌%◌, eqb, ltb, length, get_or, if◌then◌else◌}
+use Rattle.std.specs.Prelude.{Option, Some, None, Bool, ◌&&◌, not, List, ℕ, zero, suc, ◌+◌, ◌%◌, eqb, ltb, length, get_or, if◌then◌else◌}
 use Rattle.bits.specs.Every.{every_below}
 use Rattle.isa.specs.Vectors.{vector_count}
 
@@ -22,6 +22,10 @@ first_repeat vectors i (suc n) = if is_new vectors i then first_repeat vectors (
 -- no two of a list's n addresses are equal
 abbrev pub are_distinct : List ℕ → ℕ → Bool
 are_distinct vectors n = every_below n (is_new vectors)
+
+-- the first place of a list whose address stands above it, if there is one
+unfoldable pub repeat_in : List ℕ → Option ℕ
+repeat_in vectors = if are_distinct vectors (length vectors) then None else Some (first_repeat vectors 0 (length vectors))
 
 -- a list of "seven" that keeps these rules
 unfoldable pub vectors_fit : List ℕ → Bool

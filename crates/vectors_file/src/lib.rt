@@ -122,9 +122,8 @@ fn address_at(file: &[u8], at: usize, i: usize) -> Field
 fn distinct(list: [u32; COUNT]) -> Reading
     ensures { told result ≡ answered (distinctOf list) }
 {
-    let i = vector_list::first_repeat(&list);
-    if i < COUNT {
-        return bad(Cause::Repeat, i as u32 + 1);
+    match vector_list::first_repeat(&list) {
+        Some(i) => bad(Cause::Repeat, i as u32 + 1),
+        None => good(list),
     }
-    good(list)
 }

@@ -1,24 +1,15 @@
-use mathlib.Core.Path.{sym, ◌∙◌}
-use borrow.Author.Tests.{ne_eqb}
-use Rattle.vector_list.specs.Rules.{vectors_fit}
-use Rattle.vector_list.proofs.Laws.{distinct_first}
+use Rattle.std.proofs.Common.{◌∙◌, ap, sym, is_some}
+use lib.Dec.{eqb→eq}
+use Rattle.vector_list.proofs.Laws.{fits_if_new}
+use Rattle.vector_list.proofs.fits.Goals.{then-list-eq-COUNT, else-list-eq-COUNT}
 use Rattle.vector_list.proofs.fits.Goals as goal
 
-pub returns-then-list-ne-COUNT : goal.returns-then-list-ne-COUNT
-unfolding vectors_fit
-returns-then-list-ne-COUNT c = simp (ne_eqb _ _ c.if-list-ne-COUNT.true)
-
-pub returns-then-not-are_vectors : goal.returns-then-not-are_vectors
-unfolding vectors_fit
-returns-then-not-are_vectors c =
-    let seven = c.if-list-ne-COUNT.false in
-    let every = sym (rw seven at c.are_vectors.ensures) ∙ c.if-not-are_vectors.true in
-    simp (seven, every)
-
-pub returns : goal.returns
-unfolding vectors_fit
-returns c =
-    let seven = c.if-list-ne-COUNT.false in
-    let every = sym (rw seven at c.are_vectors.ensures) ∙ c.if-not-are_vectors.false in
-    let repeat = rw seven at c.first_repeat.ensures.0 in
-    simp (seven, every, distinct_first, repeat)
+pub returns-then-are_vectors : goal.returns-then-are_vectors
+returns-then-are_vectors c =
+    let list = c.args.list.now in
+    elim c.if-list-eq-COUNT.branch [
+      then-list-eq-COUNT w ↦
+        fits_if_new list w.if-list-eq-COUNT.true (sym w.are_vectors.ensures ∙ sym w.value-is ∙ c.if-are_vectors.true) _
+        (ap is_some (sym c.first_repeat.ensures.0) ∙ c.is_none.ensures)
+    | else-list-eq-COUNT w ↦ absurd (w.if-list-eq-COUNT.false (eqb→eq _ _ (rw (sym w.value-is ∙ c.if-are_vectors.true) tt)))
+    ]

@@ -1,28 +1,20 @@
-use mathlib.Core.Path.{◌≡◌, sym, ◌∙◌}
+use mathlib.Core.Path.{◌≡◌, ◌∙◌, sym}
 use native.Mathlib.Omega.{arith}
 use lib.ListN.{length}
-use borrow.Author.Tests.{ne_eqb}
 use Rattle.isa.specs.Vectors.{vector_count}
-use Rattle.vector_list.proofs.Laws.{distinct_first}
+use Rattle.vector_list.proofs.Laws.{repeats_at, repeats_nowhere}
 use Rattle.vectors_file.specs.File.{distinct}
 use Rattle.vectors_file.proofs.distinct.Goals as goal
 
-pub returns-then-i-lt-COUNT : goal.returns-then-i-lt-COUNT
+pub returns-in-Some : goal.returns-in-Some
 unfolding distinct
-returns-then-i-lt-COUNT c =
-    let list = c.args.list in
-    let r = c.first_repeat-i in
-    let seven : length list ≡ vector_count = omega arith in
-    let first = rw seven at r.ensures.0 in
-    let n : r.result ≡ vector_count → ⊥ = λ e. omega arith in
-    c.bad.ensures ∙ simp (distinct_first, sym first, ne_eqb _ _ n)
+returns-in-Some c =
+    let seven : length c.args.list ≡ vector_count = omega arith in
+    let r = repeats_at c.args.list vector_count seven (sym c.first_repeat.ensures.0 ∙ c.in-Some.is) in
+    c.bad.ensures ∙ simp (r.0, r.1)
 
-pub returns : goal.returns
+pub returns-in-None : goal.returns-in-None
 unfolding distinct
-returns c =
-    let list = c.args.list in
-    let r = c.first_repeat-i in
-    let seven : length list ≡ vector_count = omega arith in
-    let first = rw seven at r.ensures.0 in
-    let e : r.result ≡ vector_count = omega arith in
-    c.good.ensures ∙ simp (distinct_first, sym first, e)
+returns-in-None c =
+    let seven : length c.args.list ≡ vector_count = omega arith in
+    c.good.ensures ∙ simp (repeats_nowhere c.args.list vector_count seven (sym c.first_repeat.ensures.0 ∙ c.in-None.is))
