@@ -15,9 +15,8 @@ use Rattle.refusal.proofs.Passes.{cause_number}
 use Rattle.steps.specs.Plain.{Plain, plain_of}
 use Rattle.linked.specs.Run.{plain_run, history}
 use Rattle.steps.specs.declared.counts.Counts.{Counts}
-use Rattle.engine.specs.Answer.{number, counts_of, FastAnswer}
-use Rattle.engine.specs.declared.answer.Answer.{Answer}
-use Rattle.engine.specs.declared.answer.Answer.TheVariants.{Ran, Refused}
+use Rattle.engine.specs.Answer.{Answer, number, counts_of, FastAnswer}
+use Rattle.std.specs.Prelude.{Ok, Err}
 use Rattle.engine.proofs.Answers.{fast_runnable}
 use Rattle.text.proofs.Stores.{take_sets}
 use Rattle.card.specs.Card.{Verdict, good, card_says}
@@ -67,11 +66,11 @@ module _ (room : ℕ) (text out out' : List ℕ) (r : Written) (h : output_room 
 -- ---- a run that is not refused
 
 module _ {l : Lent} {cache cache' : List ℕ} {x : Left} {r : Answer} (f : FastAnswer l cache x cache' r) (z : fast_refusal l cache ≡ 0) where
-  pub never_refused : {A : Type 0} (cause : Refusal) → r ≡ Refused cause → A
+  pub never_refused : {A : Type 0} (cause : Refusal) → r ≡ Err cause → A
   never_refused cause e = absurd (cause_number cause (ap number (sym e) ∙ f.refusal ∙ z))
 
   -- its counts and states are the plain run's
-  pub run_text_lem : (n : Counts) → r ≡ Ran n → result_text n x.states ≡ run_text l cache
+  pub run_text_lem : (n : Counts) → r ≡ Ok n → result_text n x.states ≡ run_text l cache
   unfolding run_text
   run_text_lem n e =
       let p : plain_of x n ≡ plain_run l = ap (λ (a : Answer). plain_of x (counts_of a)) (sym e) ∙ rw (eq-eqb _ _ z) at f.left in

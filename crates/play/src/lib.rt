@@ -13,7 +13,6 @@ ghost use Rattle.play.specs.Inner.{Ready};
 
 use card::{Cause, Job, Reading};
 use effect::state;
-use engine::answer::Answer;
 use report::Written;
 use vectors_file::{Outcome, Source};
 
@@ -55,9 +54,9 @@ fn print_run(
     ensures { Printed (run_text (lent memory.old states.old schedule.now levels.now 0 vectors.now) cache.old) out.old out.new result }
 {
     match engine::fast::fast_run(memory, states, schedule, levels, NO_LIMIT, vectors, cache) {
-        Answer::Ran(counts) => report::write_result(out, counts, states),
+        Ok(counts) => report::write_result(out, counts, states),
         // Cannot be: what a good card asks for is accepted.
-        Answer::Refused(_) => Written::TooSmall,
+        Err(_) => Written::TooSmall,
     }
 }
 
