@@ -1,13 +1,13 @@
 -- A core's own words as a part of all states: what is read of them, and what a commit to them leaves. Assumes nothing.
 use mathlib.Core.Bool.{Bool, true, false}
 use mathlib.Core.List.{List, ◌++◌}
-use mathlib.Core.Path.{◌≡◌, sym, ap, ◌∙◌}
+use mathlib.Core.Path.{◌≡◌, sym, ap, ap₂, ◌∙◌}
 use Prim.Native.Nat.{ℕ, ◌+◌, ◌*◌, ◌≤◌, ◌<◌}
 use native.Mathlib.Nat.{zero-add}
 use native.Mathlib.Omega.{arith}
 use lib.Dec.{eqb}
 use lib.ListN.{length, take, drop, get_or, set, length-set, length-drop, take-append-drop}
-use lib.Seq.{length-take-le, get_or-take, get_or-drop, set-append_left}
+use lib.Seq.{length-take-le, get_or-take, get_or-drop, set-append_left, take_at, drop_at}
 use Rattle.bits.proofs.Lists.{set_append_add}
 use Rattle.std.specs.Prelude.{Option, Some, None, Ok, Err, if◌then◌else◌}
 use Rattle.isa.specs.Register.{Registers}
@@ -108,3 +108,24 @@ module _ (s : List ℕ) (core : ℕ) (h : core * state_words + state_words ≤ l
   own_committed vectors e l p =
       ap (with_own_words s core) p
       ∙ (stands_exception vectors e.outcome (stands_accumulated e.accumulated (stands_status e (stands_flow e (stands_value e l at_first))))).whole
+
+  -- ---- any words in their place, and a word of them
+
+  pub own_same : with_own_words s core (own_words s core) ≡ s
+  own_same = at_first.whole
+
+  pub own_put : (place v : ℕ) → place < state_words → with_own_words s core (put (own_words s core) 0 place v) ≡ put s core place v
+  own_put place v l = (stands_put place v l at_first).whole
+
+  module _ (t : List ℕ) (n : length t ≡ state_words) where
+    from_own : drop (core * state_words) (with_own_words s core t) ≡ t ++ drop state_words (drop (core * state_words) s)
+    from_own = drop_at (take (core * state_words) s) (t ++ drop state_words (drop (core * state_words) s)) (core * state_words) (length-take-le (core * state_words) s (omega arith))
+
+    pub own_words_of : own_words (with_own_words s core t) core ≡ t
+    own_words_of = ap (take state_words) from_own ∙ take_at t (drop state_words (drop (core * state_words) s)) state_words n
+
+    pub own_again : (t' : List ℕ) → with_own_words (with_own_words s core t) core t' ≡ with_own_words s core t'
+    own_again t' =
+        ap₂ (λ (b r : List ℕ). b ++ (t' ++ r))
+        (take_at (take (core * state_words) s) (t ++ drop state_words (drop (core * state_words) s)) (core * state_words) (length-take-le (core * state_words) s (omega arith)))
+        (ap (drop state_words) from_own ∙ drop_at t (drop state_words (drop (core * state_words) s)) state_words n)

@@ -1,17 +1,18 @@
 -- What latching leaves in the states. Assumes nothing.
 use mathlib.Core.Bool.{false}
 use mathlib.Core.List.{List}
-use mathlib.Core.Path.{◌≡◌}
-use Prim.Native.Nat.{ℕ, ◌+◌, ◌*◌, ◌<◌}
+use mathlib.Core.Path.{◌≡◌, sym, ap, ◌∙◌}
+use Prim.Native.Nat.{ℕ, ◌+◌, ◌*◌, ◌<◌, ◌≤◌}
 use native.Mathlib.Omega.{arith}
 use lib.Bits.{or_zero_r}
 use lib.Dec.{T}
 use lib.ListN.{length, length-set}
 use lib.Seq.{get_or-set_other, set-get_or}
 use borrow.Author.Tests.{eq-eqb}
-use Rattle.effect.specs.State.{state_words, picsr_at}
+use Rattle.effect.specs.State.{state_words, own_words, with_own_words, delay_at, sr_at, picmr_at, picsr_at}
 use Rattle.effect.specs.Board.{Board}
 use Rattle.commit.specs.Commit.{word_at}
+use Rattle.commit.proofs.Own.{own_length, own_word_at, own_put, own_words_of}
 use Rattle.lawful.specs.Accepted.{AllAccepted}
 use Rattle.lawful.proofs.Commit.{ruled, lawful_same}
 use Rattle.pic.specs.Interrupt.{latched, is_interrupted}
@@ -43,3 +44,19 @@ latch_low s core = rw (or_zero_r (word_at s core picsr_at)) (set-get_or s (core 
 pub none_interrupts : (s : List ℕ) (core : ℕ) → word_at s core picsr_at ≡ 0 → is_interrupted s core ≡ false
 unfolding is_interrupted
 none_interrupts s core h = rw (eq-eqb _ _ h)
+
+-- ---- on a core's own words, as a board with one core has them
+
+module _ (s : List ℕ) (core : ℕ) (h : core * state_words + state_words ≤ length s) where
+  pub interrupted_own : is_interrupted (own_words s core) 0 ≡ is_interrupted s core
+  unfolding is_interrupted
+  interrupted_own = rw (own_word_at s core h picsr_at (omega arith), own_word_at s core h sr_at (omega arith), own_word_at s core h delay_at (omega arith))
+
+  pub latched_own : (lines : ℕ) → with_own_words s core (latched (own_words s core) 0 lines) ≡ latched s core lines
+  unfolding latched
+  latched_own lines = rw (own_word_at s core h picsr_at (omega arith), own_word_at s core h picmr_at (omega arith)) (own_put s core h picsr_at _ (omega arith))
+
+  pub own_latched : (lines : ℕ) → own_words (latched s core lines) core ≡ latched (own_words s core) 0 lines
+  own_latched lines =
+      ap (λ (t : List ℕ). own_words t core) (sym (latched_own lines))
+      ∙ own_words_of s core h (latched (own_words s core) 0 lines) (length_latched (own_words s core) 0 lines ∙ own_length s core h)

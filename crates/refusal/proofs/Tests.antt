@@ -6,17 +6,17 @@ use Prim.Native.Nat.{ℕ, zero, suc, max, ◌+◌, ◌*◌, ◌<◌, ◌≤◌}
 use native.Mathlib.Numerals.{add-one}
 use native.Mathlib.Omega.{arith}
 use lib.Dec.{T, ltb, ltb→lt}
-use lib.ListN.{length, get_or, take, drop, drop_of_length-le}
+use lib.ListN.{length, get_or, drop, drop_of_length-le}
 use lib.Seq.{drop-cons}
 use Rattle.std.specs.Prelude.{if◌then◌else◌, Option, fold}
 use Rattle.std.specs.Option.{MatchOption}
 use Rattle.std.specs.List.{reduce}
 use Rattle.std.proofs.lemmas.Bool.Decides.{nat_tests}
 use Rattle.bits.proofs.Tests.{and_left, and_right, and_both, of_T}
-use Rattle.effect.specs.State.{state_words, pc_at, delay_at, target_at, sr_at, epcr_at, esr_at, link_at, link_address_at, mode_at, picmr_at, all, rules}
+use Rattle.effect.specs.State.{state_words, own_words, pc_at, delay_at, target_at, sr_at, epcr_at, esr_at, link_at, link_address_at, mode_at, picmr_at, all, rules}
 use Rattle.effect.specs.Board.{Board}
 use Rattle.commit.specs.Commit.{word_at}
-use Rattle.commit.proofs.Own.{mid_word}
+use Rattle.commit.proofs.Own.{own_word_at}
 use Rattle.commit.specs.Inner.{own_word}
 use Rattle.refusal.specs.Refusal.{Rule, every_from, first_broken}
 
@@ -133,10 +133,10 @@ broken_after (r ∷ l) more n e =
 
 -- ---- the rules on a state, of the part of the states that it is
 
-pub part_rules : (board : Board) (s : List ℕ) (core : ℕ) → core * state_words + state_words ≤ length s → (n : ℕ) → n ≡ state_words
-    → all (rules board core (own_word (take n (drop (core * state_words) s)))) ≡ all (rules board core (word_at s core))
-part_rules board s core h n q =
-    let word = mid_word s core h n q in
+pub part_rules : (board : Board) (s : List ℕ) (core : ℕ) → core * state_words + state_words ≤ length s
+    → all (rules board core (own_word (own_words s core))) ≡ all (rules board core (word_at s core))
+part_rules board s core h =
+    let word = own_word_at s core h in
     simp (
       word 0 (omega arith),
       word pc_at (omega arith),

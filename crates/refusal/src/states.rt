@@ -8,6 +8,7 @@ ghost use Rattle.refusal.specs.Refusal.{states_obey};
 ghost use Rattle.refusal.specs.Inner.{unset_is_zero};
 
 use effect::state;
+use effect::state::STATE_WORDS;
 
 // A target without delay, and a link address without link, are 0.
 fn unset_is_zero(flag: u32, value: u32) -> bool
@@ -24,8 +25,7 @@ fn is_mode(core: usize, mode: u32) -> bool
 }
 
 // The rules on SR, ESR and PICMR, the last three.
-fn status_obeys(own: &[u32]) -> bool
-    requires { state_words ≤ length own.now }
+fn status_obeys(own: &[u32; STATE_WORDS]) -> bool
     ensures { (board : Board) (core : ℕ) → result ≡ all (drop 10 (rules board core (own_word own.now))) }
 {
     arith::keep_allowed(own[state::SR]) == own[state::SR]
@@ -34,8 +34,7 @@ fn status_obeys(own: &[u32]) -> bool
 }
 
 // These, and the rules on addresses.
-fn addresses_obey(own: &[u32]) -> bool
-    requires { state_words ≤ length own.now }
+fn addresses_obey(own: &[u32; STATE_WORDS]) -> bool
     ensures { (board : Board) (core : ℕ) → result ≡ all (drop 4 (rules board core (own_word own.now))) }
 {
     own[state::PC].is_multiple_of(4)
@@ -48,8 +47,7 @@ fn addresses_obey(own: &[u32]) -> bool
 }
 
 // All the rules on a state.
-fn state_obeys(own: &[u32], core: usize) -> bool
-    requires { state_words ≤ length own.now }
+fn state_obeys(own: &[u32; STATE_WORDS], core: usize) -> bool
     ensures { (board : Board) → result ≡ all (rules board core (own_word own.now)) }
 {
     own[state::DELAY] <= 1
@@ -63,15 +61,13 @@ fn state_accepted(states: &[u32], core: usize) -> bool
     requires { core * state_words + state_words ≤ length states.now }
     ensures { (board : Board) → result ≡ accepted board states.now core }
 {
-    let base = core * state::STATE_WORDS;
-    let end = base + state::STATE_WORDS;
-    state_obeys(&states[base..end], core)
+    state_obeys(state::own(states, core), core)
 }
 
 pub fn states_accepted(states: &[u32]) -> bool
     ensures { (board : Board) → result ≡ states_obey board states.now }
 {
-    for core in 0..states.len() / state::STATE_WORDS {
+    for core in 0..states.len() / STATE_WORDS {
         if !state_accepted(states, core) {
             return false;
         }

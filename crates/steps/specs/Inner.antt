@@ -150,6 +150,10 @@ pub record FormExecuted (l : Lent) (cache : List ℕ) (core form : ℕ) (mem' s'
 
 -- ---- how an entry begins: the states then, and what comes next
 
+-- an entry of a board with one core: so one core's words are read and written by themselves
+abbrev pub alone : ℕ → Scheduled
+alone lines = record { core = 0; lines = lines }
+
 abbrev pub begun : List ℕ → Scheduled → List ℕ
 begun s entry = if is_running s entry.core then latched s entry.core entry.lines else s
 

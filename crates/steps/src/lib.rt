@@ -3,18 +3,19 @@
 ghost use Rattle.std.specs.Prelude.{false, [], ◌∷◌, ◌≡◌, ◌+◌, ◌*◌, ◌%◌, ◌≤◌, ◌<◌, length};
 ghost use Rattle.std.specs.declared.option.Option.TheVariants.{None};
 ghost use Rattle.std.specs.Option.{IfSome};
-ghost use Rattle.isa.specs.Vectors.{vector_count};
-ghost use Rattle.effect.specs.Board.{board_with};
+ghost use Rattle.effect.specs.Board.{board_of_code};
 ghost use Rattle.effect.specs.State.{state_words, pc_at, mode_at, linked};
 ghost use Rattle.commit.specs.Commit.{word_at};
 ghost use Rattle.decode_cache.specs.Inner.{Backed};
 ghost use Rattle.pic.specs.Interrupt.{is_interrupted};
 ghost use Rattle.refusal.specs.Lent.{lent};
-ghost use Rattle.steps.specs.Inner.{IsForm, Runnable, Undisturbed, begun, start_of, straight_mode, Entered, Stepped, Finished, FormExecuted};
+ghost use Rattle.steps.specs.Inner.{IsForm, Runnable, Undisturbed, alone, begun, start_of, straight_mode, Entered, Stepped, Finished, FormExecuted};
 
 use crate::counts::Counts;
 use effect::state;
+use effect::state::STATE_WORDS;
 use effect::types::{Board, Outcome};
+use isa::vectors::COUNT;
 
 pub mod counts;
 pub mod form;
@@ -22,7 +23,7 @@ pub mod form;
 // An entry of the schedule: its core, and the levels of the lines.
 #[derive(Clone, Copy)]
 pub struct Scheduled {
-    pub core: usize,
+    pub core: u8,
     pub lines: u32,
 }
 
@@ -41,26 +42,24 @@ pub enum Turn {
 // form that is given in place of a fetch.
 fn instruction(
     board: Board,
-    vectors: &[u32],
     memory: &mut [u8],
     states: &mut [u32],
     cache: &mut [u64],
-    core: usize,
+    core: u8,
     given: Option<u64>,
 ) -> Turn
     requires state_words_in_bounds { core * state_words + state_words ≤ length states.old }
-    requires core_bound { core < 4 }
     requires not_interrupted { given ≡ None → is_interrupted states.old core ≡ false }
     requires backed { Backed cache.old memory.old }
     requires pc_aligned { word_at states.old core pc_at % 4 ≡ 0 }
-    requires vectors_len { length vectors.now ≡ vector_count }
-    ensures { Entered (board_with board vectors.now) memory.old states.old cache.old core given memory.new states.new cache.new result }
+    ensures { Entered (board_of_code board.entry) memory.old states.old cache.old core given memory.new states.new cache.new result }
 {
-    let pc = states[core * state::STATE_WORDS + state::PC] as usize;
-    let Some(f) = crate::form::next(memory, cache, pc, given) else {
-        return Turn::Unfetched(exec::fetch_fault(vectors, states, core));
+    let (_, rest) = states.split_at_mut(usize::from(core) * STATE_WORDS);
+    let own = rest.first_chunk_mut().unwrap();
+    let Some(f) = crate::form::next(memory, cache, own[state::PC] as usize, given) else {
+        return Turn::Unfetched(exec::fetch_fault(board.vectors, own, core));
     };
-    let done = exec::execute(board, vectors, memory, states, core, f.entry);
+    let done = exec::execute(board, memory, states, core, f.entry);
     decode_cache::empty_touched(cache, done);
     Turn::Instruction(done.outcome, f.reused)
 }
@@ -75,12 +74,16 @@ pub enum Start {
 
 // Latches the lines of a running core. One in the mode `straight` runs and nothing can interrupt it, so most entries need no test but that of the mode. A linked
 // core executes what is given, if anything is.
-fn begin(states: &mut [u32], entry: Scheduled, straight: u32, given: Option<u64>) -> Start
-    requires state_words_in_bounds { entry.core * state_words + state_words ≤ length states.old }
-    requires undisturbed { word_at states.old entry.core mode_at ≡ straight → Undisturbed states.old entry }
-    ensures { (states.new ≡ begun states.old entry) × (result ≡ start_of states.old entry given) }
+fn begin(
+    own: &mut [u32; STATE_WORDS],
+    lines: u32,
+    straight: u32,
+    given: Option<u64>,
+) -> Start
+    requires { word_at own.old 0 mode_at ≡ straight → Undisturbed own.old (alone lines) }
+    ensures { (own.new ≡ begun own.old (alone lines)) × (result ≡ start_of own.old (alone lines) given) }
 {
-    let mode = states[entry.core * state::STATE_WORDS + state::MODE];
+    let mode = own[state::MODE];
     if mode == straight {
         return Start::Execute(None);
     }
@@ -90,7 +93,7 @@ fn begin(states: &mut [u32], entry: Scheduled, straight: u32, given: Option<u64>
     if mode != state::RUNNING {
         return Start::Idle;
     }
-    if pic::latch(states, entry.core, entry.lines) {
+    if pic::latch(own, lines) {
         return Start::Interrupt;
     }
     Start::Execute(None)
@@ -99,7 +102,6 @@ fn begin(states: &mut [u32], entry: Scheduled, straight: u32, given: Option<u64>
 // One entry of the schedule.
 fn step(
     board: Board,
-    vectors: &[u32],
     memory: &mut [u8],
     states: &mut [u32],
     cache: &mut [u64],
@@ -108,19 +110,17 @@ fn step(
     given: Option<u64>,
 ) -> Turn
     requires state_words_in_bounds { entry.core * state_words + state_words ≤ length states.old }
-    requires core_bound { entry.core < 4 }
     requires backed { Backed cache.old memory.old }
     requires pc_aligned { word_at states.old entry.core pc_at % 4 ≡ 0 }
     requires undisturbed { word_at states.old entry.core mode_at ≡ straight → Undisturbed states.old entry }
-    requires vectors_len { length vectors.now ≡ vector_count }
-    ensures { Stepped (board_with board vectors.now) memory.old states.old cache.old entry given memory.new states.new cache.new result }
+    ensures { Stepped (board_of_code board.entry) memory.old states.old cache.old entry given memory.new states.new cache.new result }
 {
-    match begin(states, entry, straight, given) {
+    let (_, rest) = states.split_at_mut(usize::from(entry.core) * STATE_WORDS);
+    let own = rest.first_chunk_mut().unwrap();
+    match begin(own, entry.lines, straight, given) {
         Start::Idle => Turn::Idle,
-        Start::Interrupt => Turn::Unfetched(pic::take(vectors, states, entry.core)),
-        Start::Execute(given) => instruction(
-            board, vectors, memory, states, cache, entry.core, given,
-        ),
+        Start::Interrupt => Turn::Unfetched(pic::take(board.vectors, own, entry.core)),
+        Start::Execute(given) => instruction(board, memory, states, cache, entry.core, given),
     }
 }
 
@@ -146,7 +146,7 @@ fn entries(
     schedule: &[u8],
     levels: &[u32],
     limit: u32,
-    vectors: &[u32],
+    vectors: &[u32; COUNT],
     cache: &mut [u64],
     given: Option<u64>,
 ) -> Counts
@@ -154,21 +154,20 @@ fn entries(
     requires form { IfSome given IsForm }
     ensures { Finished (lent memory.old states.old schedule.now levels.now limit vectors.now) given cache.old memory.new states.new cache.new result }
 {
-    let cores = states.len() / state::STATE_WORDS;
+    let cores = states.len() / STATE_WORDS;
     let board = Board {
         cores: cores as u32,
         limit,
+        vectors,
     };
     let straight = straight_mode(states, levels);
     let mut counts = Counts::default();
     for i in 0..schedule.len() {
         let entry = Scheduled {
-            core: usize::from(schedule[i]),
+            core: schedule[i],
             lines: levels[i],
         };
-        let turn = step(
-            board, vectors, memory, states, cache, entry, straight, given,
-        );
+        let turn = step(board, memory, states, cache, entry, straight, given);
         counts = counts.after(turn);
     }
     counts
@@ -181,7 +180,7 @@ pub fn run(
     schedule: &[u8],
     levels: &[u32],
     limit: u32,
-    vectors: &[u32],
+    vectors: &[u32; COUNT],
     cache: &mut [u64],
 ) -> Counts
     requires { Runnable (lent memory.old states.old schedule.now levels.now limit vectors.now) cache.old }
@@ -198,7 +197,7 @@ pub fn execute_form(
     states: &mut [u32],
     core: u8,
     limit: u32,
-    vectors: &[u32],
+    vectors: &[u32; COUNT],
     cache: &mut [u64],
     form: u64,
 ) -> bool

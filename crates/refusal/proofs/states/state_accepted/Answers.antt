@@ -1,7 +1,8 @@
-use mathlib.Core.Path.{◌∙◌}
-use Prim.Native.Nat.{◌+◌, ◌-◌, ◌*◌}
-use native.Mathlib.Omega.{arith}
-use Rattle.effect.specs.State.{state_words}
+use mathlib.Core.Path.{ap, ◌∙◌}
+use mathlib.Core.List.{List}
+use Prim.Native.Nat.{ℕ}
+use Rattle.effect.specs.State.{all, rules}
+use Rattle.commit.specs.Inner.{own_word}
 use Rattle.lawful.specs.Accepted.{accepted}
 use Rattle.refusal.proofs.Tests.{part_rules}
 use Rattle.refusal.proofs.states.state_accepted.Goals as goal
@@ -10,5 +11,4 @@ pub returns : goal.returns
 unfolding accepted
 returns c =
     let a = c.args in
-    let n = a.core * state_words + state_words - a.core * state_words in
-    λ board. c.state_obeys.ensures board ∙ part_rules board a.states.now a.core c.requires n (omega arith)
+    λ board. c.state_obeys.ensures board ∙ ap (λ (own : List ℕ). all (rules board a.core (own_word own))) c.own.ensures ∙ part_rules board a.states.now a.core c.requires
