@@ -8,7 +8,8 @@ ghost use Rattle.arith.specs.Compare.{holds};
 ghost use Rattle.arith.specs.Shift.{shift_left, shift_right, shift_right_signed, rotate_right, high_half};
 ghost use Rattle.arith.specs.Place.{least, greatest};
 
-// The places of the bits of SR.
+// The places of the bits of SR, as the definitions name them: an enum or masks would need a map back to the places in
+// every contract.
 pub const SM: u32 = 0;
 
 pub const TEE: u32 = 1;
@@ -111,14 +112,15 @@ pub fn align(x: u32) -> u32
 pub fn exception_sr(sr: u32, slot: bool) -> u32
     ensures { result ≡ exception_sr slot sr }
 {
-    let a = set_bit(sr, DSX, slot);
-    let b = set_bit(a, OVE, false);
-    let c = set_bit(b, IEE, false);
-    let d = set_bit(c, TEE, false);
-    set_bit(d, SM, true)
+    let sr = set_bit(sr, DSX, slot);
+    let sr = set_bit(sr, OVE, false);
+    let sr = set_bit(sr, IEE, false);
+    let sr = set_bit(sr, TEE, false);
+    set_bit(sr, SM, true)
 }
 
 // a + b + c, where c is a carry. It overflows if a and b have one sign and the value has the other.
+#[tactic(auto, using(crate::proofs::Sums::adding), unfolding(crate::specs::Sums::sum))]
 pub fn add(a: u32, b: u32, c: bool) -> Flagged
     ensures { result ≡ sum a b c }
 {
@@ -132,7 +134,7 @@ pub fn add(a: u32, b: u32, c: bool) -> Flagged
 }
 
 // a - b. It overflows if a and b have two signs and the value has not a's.
-#[tactic(auto, using(crate::proofs::Sums::word_sub, crate::proofs::Sums::wrapped_sub, crate::proofs::Sums::difference_overflow, crate::proofs::Sums::borrowed, crate::proofs::Sums::flagged_same), unfolding(crate::specs::Sums::difference))]
+#[tactic(auto, using(crate::proofs::Sums::subtracting), unfolding(crate::specs::Sums::difference))]
 pub fn sub(a: u32, b: u32) -> Flagged
     ensures { result ≡ difference a b }
 {
@@ -192,6 +194,7 @@ pub fn srl(x: u32, n: u32) -> u32
 }
 
 // The sign comes in at the top.
+#[tactic(auto, using(crate::proofs::Signed::shifted), unfolding(crate::specs::Shift::shift_right_signed))]
 pub fn sra(x: u32, n: u32) -> u32
     ensures { result ≡ shift_right_signed x n }
 {
