@@ -1,6 +1,6 @@
 -- The library's casts between u32 and i32 are the signed number of a word, and the word of a signed number. Assumes nothing.
 use Rattle.std.proofs.Common.{◌≡◌, ℕ, suc, ◌-◌, ◌^◌, ◌<◌, ◌≤◌, Bool, true, false, not, ◌&&◌, ltb, leb, refl, ℤ, pos, negsuc, ap, ◌∙◌, mod-eq_of_lt, lt-ltb, le-ltb, arith, sym}
-use lib.Signed.{mag}
+use lib.Signed.{mag, shr_z, mag_shr}
 use mir.Syntax.{w32, w64}
 use mir.Val.{to_z, of_z, SFits}
 use Rattle.std.proofs.Math.Facts.{of_z-to_z, to_z-of_z}
@@ -61,3 +61,22 @@ overflowed z true p =
     let k : 2 ^ 31 ≤ mag z = omega arith in
     rw (fits_mag z, le-ltb _ _ k)
 overflowed z false p = let h = p.sfits in rw (fits_mag z, lt-ltb _ _ h)
+
+pub signed_mag : (x : ℕ) → x < 2 ^ 32 → mag (signed 32 x) < 2 ^ 31
+signed_mag x h =
+    let a = mod-eq_of_lt h in
+    by_half 32 x (omega arith) (mag (signed 32 x) < 2 ^ 31)
+    (λ l. rw (signed_low 32 x (omega arith) l) l)
+    (λ l. rw (signed_high 32 x (omega arith) l) (omega arith))
+
+-- the signed number of a word, shifted as an i32 is
+pub shifted : (x k : ℕ) (r : ℤ) → x < 2 ^ 32 → r ≡ to_z w32 x → of_z w32 (to_z w32 (of_z w32 (shr_z (to_z w32 (of_z w32 r)) (2 ^ k)))) ≡ word (shr_z (signed 32 x) (2 ^ k))
+shifted x k r h e =
+    let p = 2 ^ k in
+    let z = shr_z (signed 32 x) p in
+    let f : mag (signed 32 x) < 2 ^ 31 = signed_mag x h in
+    let l = mag_shr (signed 32 x) p in
+    let g : SFits w32 z = record { sfits = omega (arith, f, l) } in
+    ap (λ y. of_z w32 (to_z w32 (of_z w32 (shr_z y p)))) (cast_back x r h e)
+    ∙ ap (of_z w32) (to_z-of_z {w = w32} g)
+    ∙ cast_word z (omega (arith, f, l))

@@ -9,6 +9,7 @@ use Rattle.bits.specs.Word.{bit, signed, word}
 use Rattle.bits.proofs.Extend.{signed_word}
 use Rattle.arith.specs.Sums.{fits, address_sum}
 use Rattle.arith.specs.declared.Flagged.{Flagged}
+use Rattle.arith.proofs.Bit.{bit_lt, bit_byte}
 use Rattle.arith.proofs.Integer.{by_sign, sub_add, sub_sub, sub_le, sub_lt, sub_zero}
 
 -- ---- for callers
@@ -140,3 +141,9 @@ module _ (a b s : ℕ) (ha : a < 2 ^ 32) (hb : b < 2 ^ 32) (hs : s < 2 ^ 32) whe
 pub flagged_same : {v v' : ℕ} {c c' o o' : Bool} → v ≡ v' → c ≡ c' → o ≡ o'
     → ◌≡◌ {A = Flagged} (record { value = v; carry = c; overflow = o }) (record { value = v'; carry = c'; overflow = o' })
 flagged_same p q r = cc
+
+-- ---- what the code's functions cite
+
+pub ruleset adding = (sum_carry, sum_overflow, flagged_same, bit_byte, bit_lt)
+
+pub ruleset subtracting = (word_sub, difference_overflow, borrowed, flagged_same)

@@ -8,7 +8,8 @@ ghost use Rattle.arith.specs.Compare.{holds};
 ghost use Rattle.arith.specs.Shift.{shift_left, shift_right, shift_right_signed, rotate_right, high_half};
 ghost use Rattle.arith.specs.Place.{least, greatest};
 
-// The places of the bits of SR.
+// The places of the bits of SR, as the definitions name them: an enum or masks would need a map back to the places in
+// every contract.
 pub const SM: u32 = 0;
 
 pub const TEE: u32 = 1;
@@ -42,6 +43,7 @@ fn is_set(x: u32, place: u32) -> bool
 }
 
 // x with the bit at a place made v.
+#[tactic(auto, using(crate::proofs::Bit::set_by_or, crate::proofs::Bit::cleared_by_and))]
 fn set_bit(x: u32, place: u32, v: bool) -> u32
     requires { place < 32 }
     ensures { result ≡ set_bit place v x }
@@ -91,6 +93,7 @@ pub fn interrupts_enabled(sr: u32) -> bool
 }
 
 // What a write of x to SR or ESR leaves: bits 0 to 2 and 9 to 13 of x, and bit 15.
+#[tactic(auto, using(crate::proofs::Status::allowed_fields))]
 pub fn keep_allowed(x: u32) -> u32
     ensures { result ≡ allowed x }
 {
@@ -105,17 +108,19 @@ pub fn align(x: u32) -> u32
 }
 
 // SR after an exception, in a delay slot or not.
+#[tactic(auto, unfolding(crate::specs::Status::exception_sr))]
 pub fn exception_sr(sr: u32, slot: bool) -> u32
     ensures { result ≡ exception_sr slot sr }
 {
-    let a = set_bit(sr, DSX, slot);
-    let b = set_bit(a, OVE, false);
-    let c = set_bit(b, IEE, false);
-    let d = set_bit(c, TEE, false);
-    set_bit(d, SM, true)
+    let sr = set_bit(sr, DSX, slot);
+    let sr = set_bit(sr, OVE, false);
+    let sr = set_bit(sr, IEE, false);
+    let sr = set_bit(sr, TEE, false);
+    set_bit(sr, SM, true)
 }
 
 // a + b + c, where c is a carry. It overflows if a and b have one sign and the value has the other.
+#[tactic(auto, using(crate::proofs::Sums::adding), unfolding(crate::specs::Sums::sum))]
 pub fn add(a: u32, b: u32, c: bool) -> Flagged
     ensures { result ≡ sum a b c }
 {
@@ -129,6 +134,7 @@ pub fn add(a: u32, b: u32, c: bool) -> Flagged
 }
 
 // a - b. It overflows if a and b have two signs and the value has not a's.
+#[tactic(auto, using(crate::proofs::Sums::subtracting), unfolding(crate::specs::Sums::difference))]
 pub fn sub(a: u32, b: u32) -> Flagged
     ensures { result ≡ difference a b }
 {
@@ -147,6 +153,7 @@ pub fn address_add(a: u32, b: u32) -> u32
     a.wrapping_add(b)
 }
 
+#[tactic(auto, using(crate::proofs::Sums::word_sub), unfolding(crate::specs::Sums::address_difference))]
 pub fn address_sub(a: u32, b: u32) -> u32
     ensures { result ≡ address_difference a b }
 {
@@ -154,6 +161,7 @@ pub fn address_sub(a: u32, b: u32) -> u32
 }
 
 // The compare at place n of the set-flag order.
+#[tactic(auto, using(crate::proofs::Signed::cast_back), unfolding(crate::specs::Compare::holds))]
 pub fn compare(n: u8, a: u32, b: u32) -> bool
     ensures { result ≡ holds n a b }
 {
@@ -186,12 +194,14 @@ pub fn srl(x: u32, n: u32) -> u32
 }
 
 // The sign comes in at the top.
+#[tactic(auto, using(crate::proofs::Signed::shifted), unfolding(crate::specs::Shift::shift_right_signed))]
 pub fn sra(x: u32, n: u32) -> u32
     ensures { result ≡ shift_right_signed x n }
 {
     (x.cast_signed() >> (n % 32)).cast_unsigned()
 }
 
+#[tactic(auto, using(crate::proofs::Shift::ror_or))]
 pub fn ror(x: u32, n: u32) -> u32
     ensures { result ≡ rotate_right x n }
 {
@@ -231,6 +241,7 @@ pub fn cmov(f: bool, a: u32, b: u32) -> u32
 }
 
 // The place of the lowest set bit of x, bit 0 being place 1; 0 if there is none.
+#[tactic(auto, using(crate::proofs::Place::ff1_zero, crate::proofs::Place::ff1_trailing))]
 pub fn ff1(x: u32) -> u32
     ensures { result ≡ least 32 x }
 {
@@ -241,6 +252,7 @@ pub fn ff1(x: u32) -> u32
 }
 
 // The place of the highest set bit of x, likewise.
+#[tactic(auto, using(crate::proofs::Place::fl1_leading))]
 pub fn fl1(x: u32) -> u32
     ensures { result ≡ greatest 32 x }
 {

@@ -1,7 +1,7 @@
 -- Document 01, "Marked examples at the edges", in its order.
 use Rattle.std.specs.Prelude.{Bool, true, false, ◌&&◌, List, [], ◌∷◌, ℕ, zero, suc, ◌+◌, ◌^◌, eqb, ltb, if◌then◌else◌}
 use Rattle.std.proofs.Math.Option.{Option, none, some}
-use Rattle.bits.specs.Word.{field}
+use Rattle.bits.specs.Word.{bit, field}
 use Rattle.isa.specs.InstructionSet.{decode}
 use Rattle.codec.specs.Encoding.{encode, number}
 use Rattle.isa.specs.Vectors.{old_vector, old_vectors}
@@ -63,9 +63,9 @@ right (word_is_entry w e) =
     eqb (decode w) e && (ltb (number (encode e)) (2 ^ 32) && eqb (decode (number (encode e))) e)
 right (word_is_kind w k) = eqb (field (decode w) 56 8) k
 right (word_has_immediate w n) = eqb (field (decode w) 0 32) n
-right (sum_is a b v) = eqb (sum a b 0).value v
-right (sum_flags a b cy ov) = eqb (sum a b 0).carry cy && eqb (sum a b 0).overflow ov
-right (difference_flags a b cy ov) = eqb (difference a b).carry cy && eqb (difference a b).overflow ov
+right (sum_is a b v) = eqb (sum a b false).value v
+right (sum_flags a b cy ov) = eqb (bit (sum a b false).carry) cy && eqb (bit (sum a b false).overflow) ov
+right (difference_flags a b cy ov) = eqb (bit (difference a b).carry) cy && eqb (bit (difference a b).overflow) ov
 right (compare_is n a b t) = same (holds n a b) t
 right (ff1_is x n) = eqb (least 32 x) n
 right (access_is n len at a) = eqb (vector_of (access n no_limit len at)) (vector_of a)

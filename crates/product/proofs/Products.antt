@@ -3,6 +3,7 @@ use Rattle.std.proofs.Common.{◌≡◌, ℕ, suc, ◌+◌, ◌-◌, ◌*◌, �
 use borrow.Author.Tests.{lt-leb}
 use Rattle.std.specs.Bool.{FalseIff}
 use Rattle.bits.specs.Word.{signed, word}
+use Rattle.arith.proofs.Signed.{cast_back, cast_wide, overflowed}
 use Rattle.product.specs.Product.{product, quotient}
 use Rattle.product.proofs.Signs.{word_neg, by_signs}
 
@@ -53,3 +54,9 @@ product_low a b ha hb = word_product a b ha hb
 pub carried : (p : ℕ) (u : Bool) → FalseIff u (p < 2 ^ 32) → u ≡ leb (2 ^ 32) p
 carried p true h = let k : 2 ^ 32 ≤ p = omega arith in sym (le-leb _ _ k)
 carried p false h = sym (lt-leb _ _ h)
+
+-- ---- what the code's functions cite
+
+pub ruleset multiplying = (word_product, overflowed, cast_back)
+
+pub ruleset extending = (product_low, cast_back, cast_wide)

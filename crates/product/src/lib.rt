@@ -34,6 +34,7 @@ impl From<u64> for Accumulator {
     }
 }
 
+#[tactic(auto, using(crate::proofs::Products::carried), unfolding(crate::specs::Product::product_unsigned))]
 pub fn mul_unsigned(a: u32, b: u32) -> Flagged
     ensures { result ≡ product_unsigned a b }
 {
@@ -46,6 +47,7 @@ pub fn mul_unsigned(a: u32, b: u32) -> Flagged
 }
 
 // The signed product: its low 32 bits and its carry are those of the unsigned one.
+#[tactic(auto, using(crate::proofs::Products::multiplying), unfolding(crate::specs::Product::product, crate::specs::Product::product_unsigned))]
 pub fn mul(a: u32, b: u32) -> Flagged
     ensures { result ≡ product a b }
 {
@@ -74,6 +76,7 @@ pub fn div_unsigned(a: u32, b: u32) -> Option<u32>
 }
 
 // The low 32 bits of a product, sign-extended to 64.
+#[tactic(auto, using(crate::proofs::Products::extending))]
 fn term(a: u32, b: u32) -> u64
     ensures { result ≡ modulo 64 (term a b) }
 {
@@ -82,6 +85,7 @@ fn term(a: u32, b: u32) -> u64
 
 impl Accumulator {
     // Such a term is added, modulo 2^64.
+    #[tactic(auto, using(crate::proofs::Accumulated::held_sum), unfolding(crate::specs::Accumulate::added))]
     pub fn add_product(self, a: u32, b: u32) -> Accumulator
         ensures { result ≡ added self a b }
     {
@@ -89,6 +93,7 @@ impl Accumulator {
     }
 
     // Likewise subtracted.
+    #[tactic(auto, using(crate::proofs::Accumulated::held_difference), unfolding(crate::specs::Accumulate::subtracted))]
     pub fn subtract_product(self, a: u32, b: u32) -> Accumulator
         ensures { result ≡ subtracted self a b }
     {
