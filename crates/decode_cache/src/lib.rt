@@ -3,7 +3,7 @@
 ghost use Rattle.std.specs.Prelude.{◌≡◌, ◌+◌, ◌*◌, ◌/◌, ◌%◌, ◌^◌, ◌≤◌, ◌<◌, length, set};
 ghost use Rattle.effect.specs.Board.{Board};
 ghost use Rattle.decode_cache.specs.Cache.{form_at};
-ghost use Rattle.decode_cache.specs.Inner.{Backed, filled_at, fetch_at, form_fetched, cache_after, emptied_by, form_of_fetch};
+ghost use Rattle.decode_cache.specs.Inner.{Backed, filled_at, fetch_at, cache_after, emptied_by, form_of_fetch};
 
 use commit::Done;
 
