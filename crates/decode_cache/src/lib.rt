@@ -24,7 +24,8 @@ fn filled_entry(cache: &[u64], k: usize) -> Option<u64>
     }
 }
 
-// Sets the entry of word k; a word outside the cache has none. Not by get_mut, after which nothing is known of a slice's elements.
+// Sets the entry of word k; a word outside the cache has none. Not by get_mut, after which nothing is known of a
+// slice's elements.
 fn put_entry(cache: &mut [u64], k: usize, entry: u64)
     ensures { cache.new ≡ set cache.old k entry }
 {
@@ -42,7 +43,8 @@ fn decoded(memory: &[u8], k: usize) -> u64
     codec::decoder::decode(memory::load_word(memory, 4 * k))
 }
 
-// The form of the word at pc, if it is inside memory: its entry, which is filled if it was empty. A filled entry is of a word inside.
+// The form of the word at pc, if it is inside memory: its entry, which is filled if it was empty. A filled entry is of
+// a word inside.
 pub fn fetch(memory: &[u8], cache: &mut [u64], pc: usize) -> Option<Fetched>
     requires backed { Backed cache.old memory.now }
     requires word_address { (pc % 4 ≡ 0) × (pc < 2 ^ 32) }

@@ -243,7 +243,7 @@ module _ (mem s : List ℕ) (core lines limit : ℕ) (vectors cache : List ℕ) 
   first = fast_of mem s cache no_counts
 
   named : core < core_count s
-  named = r.names_cores_lem 0 (omega arith)
+  named = r.cores_there 0 (omega arith)
 
   pub core_0 : state_words ≤ length s
   core_0 = omega (arith, named)

@@ -46,7 +46,7 @@ pub record Leads (lead : Lead) : Type 0 where
   pub is_form : IsForm lead.form
   pub before_lawful : LawfulFlow lead.before
   pub after_lawful : LawfulFlow lead.after
-  pub outside_slot_lem : reads_nothing (lead_kind lead) ≡ true → lead.before.delay ≡ 0
+  pub no_slot : reads_nothing (lead_kind lead) ≡ true → lead.before.delay ≡ 0
 
 -- a core of l is linked and can follow a lead
 pub record Follows (l : Lent) (cache : List ℕ) (core : ℕ) (lead : Lead) : Type 0 where
@@ -54,7 +54,7 @@ pub record Follows (l : Lent) (cache : List ℕ) (core : ℕ) (lead : Lead) : Ty
   pub leads : Leads lead
   pub other : 0 < core
   pub inside : core < core_count l.states
-  pub is_linked_lem : word_at l.states core mode_at ≡ linked
+  pub core_linked : word_at l.states core mode_at ≡ linked
 
 -- it did
 abbrev pub Followed : Lent → List ℕ → ℕ → Lead → List ℕ → List ℕ → List ℕ → Type 0

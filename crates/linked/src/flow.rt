@@ -1,4 +1,5 @@
-// A core's PC, delay and target.
+// A core's PC, delay and target. Functions and no methods, since Flow is the crate effect's and the states are lent as
+// a slice.
 ghost use Rattle.std.specs.Prelude.{◌≡◌, ◌+◌, ◌*◌, ◌≤◌, length};
 ghost use Rattle.effect.specs.State.{state_words};
 ghost use Rattle.linked.specs.Linked.{flow_at, with_flow};

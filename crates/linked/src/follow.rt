@@ -18,7 +18,8 @@ pub struct Lead {
     pub after: Flow,
 }
 
-// An instruction on the core's own registers, with core 0's flow lent. If it raises, the core has its words back and is halted.
+// An instruction on the core's own registers, with core 0's flow lent. If it raises, the core has its words back and is
+// halted.
 fn execute(
     memory: &mut [u8],
     states: &mut [u32],
@@ -61,7 +62,8 @@ fn call(states: &mut [u32], core: usize, lead: Lead)
     flow::put(states, core, lead.after);
 }
 
-// A linked core does what core 0 did. At l.rfe, l.jr and l.jalr it goes where core 0 goes, and nothing of its own is read.
+// A linked core does what core 0 did. At l.rfe, l.jr and l.jalr it goes where core 0 goes, and nothing of its own is
+// read.
 pub fn follow(
     memory: &mut [u8],
     states: &mut [u32],

@@ -84,7 +84,7 @@ fn entry(
     counts
 }
 
-// The schedule's entries, in order, each with the linked cores.
+// The schedule's entries, in order, each with the linked cores. By index, as the loop of steps.
 pub fn entries(
     memory: &mut [u8],
     states: &mut [u32],
