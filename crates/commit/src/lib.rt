@@ -103,6 +103,9 @@ pub fn write(
     )
 }
 
+// The three below differ in the arm that is likely, which is inlined where they are called. One function with the arm
+// as a closure would be no plainer: the closure's contract says more than the arm.
+
 // An action that is likely to go on.
 #[tactic(auto, unfolding(effect::specs::Inner::effect_by, effect::specs::Effect::advances))]
 pub fn advance(

@@ -276,8 +276,7 @@ pub fn store_of(action: Action) -> Option<Store>
     ensures { (x : Inputs) → result ≡ (effect_by x action).store }
 {
     match action {
-        Action::Save(s) => Some(s),
-        Action::SaveLinked(s) => Some(s),
+        Action::Save(s) | Action::SaveLinked(s) => Some(s),
         _ => None,
     }
 }

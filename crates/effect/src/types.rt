@@ -3,6 +3,8 @@ use isa::vectors::{COUNT, Cause};
 use product::Accumulator;
 
 // Where execution goes on: the next instruction, whether it is in a delay slot, and where it goes after the slot.
+// Here and in Link the words of the state stand as they are: `reads` (commit's definitions) has every word, also one that
+// no bool or Option is read from, and a step would have to make these of the words and turn them back.
 #[derive(Clone, Copy)]
 pub struct Flow {
     pub pc: u32,

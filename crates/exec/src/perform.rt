@@ -32,14 +32,12 @@ fn low(
             let action = semantics::nop_movhi(kind, inputs_at(own, core, entry));
             commit::advance(board.vectors, memory, own, core, entry, action)
         }
+    } else if kind < groups::LOAD {
+        let action = semantics::control(kind, inputs_at(own, core, entry));
+        commit::jump(board.vectors, memory, own, core, entry, action)
     } else {
-        if kind < groups::LOAD {
-            let action = semantics::control(kind, inputs_at(own, core, entry));
-            commit::jump(board.vectors, memory, own, core, entry, action)
-        } else {
-            let action = semantics::load(memory, kind, inputs_at(own, core, entry));
-            commit::advance(board.vectors, memory, own, core, entry, action)
-        }
+        let action = semantics::load(memory, kind, inputs_at(own, core, entry));
+        commit::advance(board.vectors, memory, own, core, entry, action)
     }
 }
 
@@ -135,17 +133,13 @@ fn high(
 {
     if kind < groups::STORE {
         immediate(board, memory, own, core, kind, entry)
+    } else if kind < groups::COMPARE {
+        mid(board, memory, own, core, kind, entry)
+    } else if kind < groups::CACHE {
+        let w = semantics::compare(kind, inputs_at(own, core, entry));
+        commit::write(board.vectors, memory, own, core, entry, w)
     } else {
-        if kind < groups::COMPARE {
-            mid(board, memory, own, core, kind, entry)
-        } else {
-            if kind < groups::CACHE {
-                let w = semantics::compare(kind, inputs_at(own, core, entry));
-                commit::write(board.vectors, memory, own, core, entry, w)
-            } else {
-                top(board, memory, own, core, kind, entry)
-            }
-        }
+        top(board, memory, own, core, kind, entry)
     }
 }
 
