@@ -27,8 +27,8 @@ abbrev pub cache_after : Board → List ℕ → List ℕ → ℕ → List ℕ
 cache_after board mem cache pc = if leb (pc + 4) (length mem) then set cache (pc / 4) (cached_form board mem cache (pc / 4)) else cache
 
 -- the form alone
-abbrev pub form_fetched : Option Fetched → Option ℕ
-form_fetched f = option_map (λ f. f.entry) f
+abbrev pub form_of_fetch : Option Fetched → Option ℕ
+form_of_fetch f = option_map (λ f. f.entry) f
 
 -- the cache after a store at an address, if there is one
 abbrev pub emptied_by : Option ℕ → List ℕ → List ℕ

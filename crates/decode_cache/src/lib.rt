@@ -3,7 +3,7 @@
 ghost use Rattle.std.specs.Prelude.{◌≡◌, ◌+◌, ◌*◌, ◌/◌, ◌%◌, ◌^◌, ◌≤◌, ◌<◌, length, set};
 ghost use Rattle.effect.specs.Board.{Board};
 ghost use Rattle.decode_cache.specs.Cache.{form_at};
-ghost use Rattle.decode_cache.specs.Inner.{Backed, filled_at, fetch_at, form_fetched, cache_after, emptied_by};
+ghost use Rattle.decode_cache.specs.Inner.{Backed, filled_at, fetch_at, form_of_fetch, cache_after, emptied_by};
 
 use commit::Done;
 
@@ -24,7 +24,8 @@ fn filled_entry(cache: &[u64], k: usize) -> Option<u64>
     }
 }
 
-// Sets the entry of word k; a word outside the cache has none. Not by get_mut, after which nothing is known of a slice's elements.
+// Sets the entry of word k; a word outside the cache has none. Not by get_mut, after which nothing is known of a
+// slice's elements.
 fn put_entry(cache: &mut [u64], k: usize, entry: u64)
     ensures { cache.new ≡ set cache.old k entry }
 {
@@ -42,7 +43,8 @@ fn decoded(memory: &[u8], k: usize) -> u64
     codec::decoder::decode(memory::load_word(memory, 4 * k))
 }
 
-// The form of the word at pc, if it is inside memory: its entry, which is filled if it was empty. A filled entry is of a word inside.
+// The form of the word at pc, if it is inside memory: its entry, which is filled if it was empty. A filled entry is of
+// a word inside.
 pub fn fetch(memory: &[u8], cache: &mut [u64], pc: usize) -> Option<Fetched>
     requires backed { Backed cache.old memory.now }
     requires word_address { (pc % 4 ≡ 0) × (pc < 2 ^ 32) }
@@ -69,7 +71,7 @@ pub fn fetch(memory: &[u8], cache: &mut [u64], pc: usize) -> Option<Fetched>
 // The form that a fetch at pc executes, if the word is inside memory. No entry is filled.
 pub fn peek(memory: &[u8], cache: &[u64], pc: usize) -> Option<u64>
     requires { pc < 2 ^ 32 }
-    ensures { (board : Board) → result ≡ form_fetched (fetch_at board memory.now cache.now pc) }
+    ensures { (board : Board) → result ≡ form_of_fetch (fetch_at board memory.now cache.now pc) }
 {
     if pc + 4 > memory.len() {
         return None;

@@ -50,8 +50,8 @@ unfolding schedule_fits names_cores levels_fit
 passes_runnable l cache p b r = record {
   few_cores = (cores_fit (length l.states) p.states_fit_lem).1;
   few_entries = leb→le (length l.schedule) max_schedule p.schedule_fits_lem;
-  names_cores_lem = λ i h. ltb→lt _ _ (from_at (λ i core. ltb core (core_count l.states)) l.schedule 0 p.names_cores_lem i h);
-  levels_fit_lem = eqb→eq (length l.levels) (length l.schedule) p.levels_fit_lem;
+  cores_there = λ i h. ltb→lt _ _ (from_at (λ i core. ltb core (core_count l.states)) l.schedule 0 p.names_cores_lem i h);
+  one_level_each = eqb→eq (length l.levels) (length l.schedule) p.levels_fit_lem;
   seven_vectors = fit_seven l.vectors p.vectors_fit_lem;
   vectors_lawful = fit_multiple l.vectors p.vectors_fit_lem;
   accepted = obeys_accepted (board_of l) l.states p.states_obey_lem;
@@ -147,7 +147,7 @@ module _ (l : Lent) where
         let f : Agrees board (fast_of mem' s' cache' n) (plain_run l) (history l cache) =
         subst (λ (x : Fast). Agrees board x (plain_run l) (history l cache)) (sym e.left)
         (from_agrees board (scheduled_by l) (fast_of l.memory l.states cache no_counts) runs.right) in
-        let t : AllAccepted board (plain_run l).states = from_accepted board runs.vectors_lawful l.schedule l.levels (start l) runs.names_cores_lem runs.accepted in
+        let t : AllAccepted board (plain_run l).states = from_accepted board runs.vectors_lawful l.schedule l.levels (start l) runs.cores_there runs.accepted in
         let c : cache' ≡ entries_from board 0 (plain_run l).memory (history l cache).cached =
         cache_is board mem' cache' f.right_again
         ∙ ap₂ (λ (x : Plain) (h : History). entries_from board 0 x.memory h.cached) f.same_plain f.same_history in

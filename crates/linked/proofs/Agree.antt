@@ -55,7 +55,7 @@ module _ (board : Board) (mem s : List ℕ) (entry : Scheduled) (form : ℕ) (sh
   pub shared_leads : IsForm form → (s' : List ℕ) → AllAccepted board s → AllAccepted board s' → 0 < core_count s → 0 < core_count s' → Leads (lead_of form s s')
   unfolding inputs
   shared_leads f s' a a' h h' =
-      record { is_form = f; before_lawful = (a 0 h).flow_lawful; after_lawful = (a' 0 h').flow_lawful; outside_slot_lem = outside }
+      record { is_form = f; before_lawful = (a 0 h).flow_lawful; after_lawful = (a' 0 h').flow_lawful; no_slot = outside }
     where
       outside : reads_nothing (kind_of_entry form) ≡ true → word_at s 0 delay_at ≡ 0
       outside k =

@@ -1,7 +1,9 @@
 -- A run in which no core is linked: each entry is its own core's alone. Assumes nothing.
-use Rattle.std.proofs.Common.{◌≡◌, ℕ, zero, suc, ◌+◌, ◌-◌, ◌*◌, ◌<◌, true, false, List, [], ◌∷◌, length, get_or, sym, refl, ap, ◌∙◌, true≢false, add-one, arith, eq-eqb, ne_eqb}
-use mathlib.Core.Bool.{or-true}
+use Rattle.std.proofs.Common.{◌≡◌, ℕ, zero, suc, ◌+◌, ◌-◌, ◌*◌, ◌<◌, true, false, List, [], ◌∷◌, length, get_or, sym, refl, ap, ◌∙◌, true≢false, arith, eq-eqb, ne_eqb, Bool, ◌≤◌}
+use mathlib.Core.Bool.{◌||◌}
 use Rattle.bits.proofs.Cases.{if_both, by_equality}
+use Rattle.std.specs.List.{list_any, range_with_len}
+use Rattle.std.specs.declared.option.Option.TheVariants.{None}
 use Rattle.effect.specs.State.{mode_at, linked}
 use Rattle.effect.specs.Board.{Board}
 use Rattle.effect.specs.declared.types.Effect.{Effect}
@@ -26,18 +28,23 @@ use Rattle.linked.specs.declared.follow.Lead.{Lead}
 
 -- ---- whether any core is linked
 
-pub any_next : (s : List ℕ) (n : ℕ) → any_linked n s ≡ false → is_linked s n ≡ false → any_linked (n + 1) s ≡ false
-unfolding any_linked
-any_next s n h g = rw (add-one, h, g)
+or_left : (a b : Bool) → (a || b) ≡ false → a ≡ false
+or_left true b h = cc
+or_left false b h = refl
 
-pub any_stop : (s : List ℕ) (n core : ℕ) → core < n → is_linked s core ≡ true → any_linked n s ≡ true
-unfolding any_linked
-any_stop s zero core l h = absurd (omega arith)
-any_stop s (suc n) core l h =
-    by_equality core n (λ e. rw (← e, h) (or-true (any_linked core s))) (λ e. rw (any_stop s n core (omega arith) h))
+or_right : (a b : Bool) → (a || b) ≡ false → b ≡ false
+or_right true b h = cc
+or_right false b h = h
 
-pub none_linked : (s : List ℕ) → any_linked (core_count s) s ≡ false → NoneLinked s
-none_linked s h core l m = true≢false (sym (any_stop s (core_count s) core l (eq-eqb _ _ m)) ∙ h)
+none_at : (s : List ℕ) (a n : ℕ) → list_any (is_linked s) (range_with_len a n) ≡ false → (core : ℕ) → a ≤ core → core < a + n → is_linked s core ≡ false
+none_at s a zero h core g l = absurd (omega arith)
+none_at s a (suc n) h core g l =
+    let rest = list_any (is_linked s) (range_with_len (a + 1) n) in
+    by_equality core a (λ e. rw e (or_left (is_linked s a) rest h)) (λ e. none_at s (a + 1) n (or_right (is_linked s a) rest h) core (omega arith) (omega arith))
+
+pub none_linked : (s : List ℕ) → any_linked s ≡ false → NoneLinked s
+unfolding any_linked
+none_linked s h core l m = true≢false (sym (eq-eqb _ _ m) ∙ none_at s 0 (core_count s) h core (omega arith) (omega arith))
 
 -- then none follows
 pub none_follow : (board : Board) (lead : Lead) (n : ℕ) (x : Shared) → n < core_count x.states → NoneLinked x.states → followers board lead n x ≡ x
@@ -120,7 +127,7 @@ module _ (board : Board) (x : Fast) (entry : Scheduled) (h : entry.core < core_c
 pub from_alone : (board : Board) → LawfulVectors board.vectors → (schedule levels : List ℕ) (x : Fast)
     → ((i : ℕ) → i < length schedule → get_or schedule i 0 < core_count x.plain.states) → AllAccepted board x.plain.states
     → Right board x.cache x.plain.memory → NoneLinked x.plain.states
-    → fast_from board (scheduled schedule levels) x ≡ given_from board 0 (scheduled schedule levels) x
+    → fast_from board (scheduled schedule levels) x ≡ given_from board None (scheduled schedule levels) x
 unfolding fast_from given_from scheduled
 from_alone board v [] levels x names a r n = refl
 from_alone board v (core ∷ schedule) [] x names a r n = refl
@@ -131,4 +138,4 @@ from_alone board v (core ∷ schedule) (lines ∷ levels) x names a r n =
     ap (fast_from board (scheduled schedule levels)) (linked_alone board x entry h a r n)
     ∙ from_alone board v schedule levels (fast_step board x entry) (λ i g. rw (fast_length board x entry r) (names (suc i) (omega arith)))
     kept.0 kept.1 (fast_none_linked board x entry h a r n)
-    ∙ ap (given_from board 0 (scheduled schedule levels)) (sym (given_none board x entry))
+    ∙ ap (given_from board None (scheduled schedule levels)) (sym (given_none board x entry))

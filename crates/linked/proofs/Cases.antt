@@ -277,8 +277,8 @@ pub unscheduled_runnable : {mem s schedule levels : List ℕ} {limit : ℕ} {vec
 unscheduled_runnable r = record {
   few_cores = r.few_cores;
   few_entries = omega arith;
-  levels_fit_lem = refl;
-  names_cores_lem = λ i h. absurd (let z : i < 0 = h in omega arith);
+  one_level_each = refl;
+  cores_there = λ i h. absurd (let z : i < 0 = h in omega arith);
   seven_vectors = r.seven_vectors;
   vectors_lawful = r.vectors_lawful;
   accepted = r.accepted;
@@ -292,8 +292,8 @@ pub scheduled_runnable : {mem s : List ℕ} {limit : ℕ} {vectors cache : List 
 scheduled_runnable r core lines h = record {
   few_cores = r.few_cores;
   few_entries = omega arith;
-  levels_fit_lem = refl;
-  names_cores_lem = λ i g. let z : i ≡ 0 = omega arith in rw z h;
+  one_level_each = refl;
+  cores_there = λ i g. let z : i ≡ 0 = omega arith in rw z h;
   seven_vectors = r.seven_vectors;
   vectors_lawful = r.vectors_lawful;
   accepted = r.accepted;
@@ -315,8 +315,8 @@ module _ (mem s mem' s' : List ℕ) (limit : ℕ) (vectors cache cache' : List �
       record {
         few_cores = omega (arith, r.few_cores);
         few_entries = r.few_entries;
-        levels_fit_lem = refl;
-        names_cores_lem = λ i h. absurd (let z : i < 0 = h in omega arith);
+        one_level_each = refl;
+        cores_there = λ i h. absurd (let z : i < 0 = h in omega arith);
         seven_vectors = r.seven_vectors;
         vectors_lawful = r.vectors_lawful;
         accepted = subst (λ (b : Board). AllAccepted b s') (sym board_again) a;
@@ -386,12 +386,12 @@ module _ (mem s : List ℕ) (limit : ℕ) (vectors cache : List ℕ) (core : ℕ
   going place v flow h q =
       let none : writes_memory effect ≡ false = ap writes_memory q in
       sym (followed_completed board lead mem s cache core f.inside (ap completes q)
-      ∙ ap (λ (l : List ℕ). shared (memory_after mem effect) l (emptied effect cache)) (goes_along vectors s core lead place v h f.inside f.is_linked_lem effect flow q)
+      ∙ ap (λ (l : List ℕ). shared (memory_after mem effect) l (emptied effect cache)) (goes_along vectors s core lead place v h f.inside f.core_linked effect flow q)
       ∙ ap₂ (λ (m l : List ℕ). shared m (with_flow (if eqb place 0 then s else put s core place v) core lead.after) l) (no_store_kept mem effect none) (none_emptied board lead mem s cache core f.inside none))
 
   in_no_slot : reads_nothing (lead_kind lead) ≡ true → in_slot read_by ≡ false
   unfolding follower_inputs
-  in_no_slot h = let d : lead.before.delay ≡ 0 = f.leads.outside_slot_lem h in rw d
+  in_no_slot h = let d : lead.before.delay ≡ 0 = f.leads.no_slot h in rw d
 
   pub follows_return : lead_kind lead ≡ 13 → shared mem (with_flow s core lead.after) cache ≡ followed board lead (shared mem s cache) core
   unfolding follower_effect follower_inputs inputs
@@ -429,7 +429,7 @@ module _ (mem s : List ℕ) (limit : ℕ) (vectors cache : List ℕ) (core : ℕ
       core 0 (omega (arith, f.inside))
 
   pub alone_linked : word_at lent_states core mode_at ≡ linked
-  alone_linked = flow_mode s core lead.before f.inside ∙ f.is_linked_lem
+  alone_linked = flow_mode s core lead.before f.inside ∙ f.core_linked
 
   lent_flow : (inputs lent_states core (fields_of lead.form)).flow ≡ lead.before
   unfolding inputs
@@ -453,8 +453,8 @@ module _ (mem s : List ℕ) (limit : ℕ) (vectors cache : List ℕ) (core : ℕ
       states_left : s' ≡ states_after vectors lent_states core effect
       states_left = x.states ∙ ap (states_after vectors lent_states core) same_effect
 
-      cache_left_lem : cache' ≡ emptied effect cache
-      cache_left_lem = x.cache_left_lem ∙ ap (λ (e : Effect). emptied e cache) same_effect
+      entries_left : cache' ≡ emptied effect cache
+      entries_left = x.entries_left ∙ ap (λ (e : Effect). emptied e cache) same_effect
 
       completed_as : completes effect ≡ r
       completed_as = sym (x.completed ∙ ap completes same_effect)
@@ -474,7 +474,7 @@ module _ (mem s : List ℕ) (limit : ℕ) (vectors cache : List ℕ) (core : ℕ
           let mode : word_at w core mode_at ≡ effect.mode =
           flow_mode s' core lead.after (omega (arith, f.inside)) ∙ ap (λ (t : List ℕ). word_at t core mode_at) (states_left x)
           ∙ mode_after vectors lent_states core effect (omega (arith, f.inside)) in
-          shared_same (memory_left x) (relinks w core effect.mode mode ∙ ap (λ (t : List ℕ). taking lead t core effect) (states_left x)) (cache_left_lem x)
+          shared_same (memory_left x) (relinks w core effect.mode mode ∙ ap (λ (t : List ℕ). taking lead t core effect) (states_left x)) (entries_left x)
           ∙ sym (followed_completed board lead mem s cache core f.inside (completed_as x))
 
       -- it raised: the core has its words back
@@ -489,7 +489,7 @@ module _ (mem s : List ℕ) (limit : ℕ) (vectors cache : List ℕ) (core : ℕ
           ∙ flow_another s core lead.before c j m i in
           shared_same (memory_left x ∙ no_store_kept mem effect none)
           (ap (λ (t : List ℕ). put t core mode_at halted) (words_back s s' core n q f.inside (length_after x) others))
-          (cache_left_lem x ∙ none_emptied board lead mem s cache core f.inside none)
+          (entries_left x ∙ none_emptied board lead mem s cache core f.inside none)
           ∙ sym (followed_raised board lead mem s cache core f.inside (completed_as x))
 
   -- ---- the same, as the code has it: t is the states with the flow lent

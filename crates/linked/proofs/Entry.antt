@@ -5,6 +5,8 @@ use Rattle.std.proofs.Common.{◌≡◌, ℕ, ◌+◌, ◌-◌, ◌/◌, ◌<◌
 use mathlib.Core.Bool.{and-false}
 use Rattle.bits.proofs.Cases.{by_equality, if_both}
 use Rattle.bits.proofs.Tests.{and_left, and_right, T_of, of_T}
+use Rattle.std.specs.declared.option.Option.{Option}
+use Rattle.std.specs.declared.option.Option.TheVariants.{None, Some}
 use Rattle.effect.specs.State.{state_words, pc_at}
 use Rattle.effect.specs.Board.{Board}
 use Rattle.effect.specs.Effect.{raises, Outcome}
@@ -12,7 +14,7 @@ use Rattle.effect.specs.declared.types.Effect.{Effect}
 use Rattle.effect.specs.declared.types.Flow.{Flow}
 use Rattle.commit.specs.Commit.{word_at, core_count, raised_by}
 use Rattle.decode_cache.specs.Cache.{filled, cached_form}
-use Rattle.decode_cache.specs.Inner.{fetch_at}
+use Rattle.decode_cache.specs.Inner.{fetch_at, form_of_fetch}
 use Rattle.semantics.specs.Meaning.{effect_of}
 use Rattle.pic.specs.Interrupt.{latched, is_interrupted}
 use Rattle.pic.proofs.Latched.{latched_word}
@@ -20,7 +22,7 @@ use Rattle.lawful.specs.Accepted.{AllAccepted}
 use Rattle.refusal.specs.Lent.{Lent, lent, board_of}
 use Rattle.steps.specs.Plain.{scheduled, is_running, fetched, is_fetch, unfetched, plain_after}
 use Rattle.steps.specs.Fast.{Fast, fast_fetch, fast_unfetched, fast_entry, fast_step}
-use Rattle.steps.specs.Counts.{no_counts, AtMost}
+use Rattle.steps.specs.Counts.{no_counts, AtMost, added_to}
 use Rattle.steps.specs.Inner.{fast_of, IsForm, given_from, Right, Runnable, Finished}
 use Rattle.steps.proofs.Agree.{cached_form_lem}
 use Rattle.steps.proofs.Cases.{filled_le}
@@ -29,7 +31,7 @@ use Rattle.steps.specs.declared.counts.Counts.{Counts}
 use Rattle.steps.specs.declared.Scheduled.{Scheduled}
 use Rattle.linked.specs.Linked.{flow_at, completes, Shared, followers}
 use Rattle.linked.specs.Run.{is_shared, lead_of, after_linked, cached_fetched, fast_linked, fast_from}
-use Rattle.linked.specs.Inner.{unscheduled, shared, Leads, AllFollowed, added_to, was_shared, Led}
+use Rattle.linked.specs.Inner.{unscheduled, shared, Leads, AllFollowed, was_shared, Led}
 use Rattle.linked.specs.declared.follow.Lead.{Lead}
 use Rattle.linked.proofs.Agree.{form_fetched_lem, shared_leads}
 use Rattle.linked.proofs.Cases.{unscheduled_runnable, board_again, runnable_again}
@@ -212,7 +214,8 @@ module _ (board : Board) (mem s cache : List ℕ) (entry : Scheduled) where
   after_own mem' s' cache' h = rw h
 
   -- the form that was looked up before the step is the one that core 0 fetched
-  pub peeked : (f : ℕ) {pc r : ℕ} → is_shared board mem s entry f ≡ true → pc ≡ word_at s 0 pc_at → r ≡ (fetch_at board mem cache pc).entry → r ≡ cached_fetched board mem s cache
+  pub peeked : (f : ℕ) {pc : ℕ} {r : Option ℕ} → is_shared board mem s entry f ≡ true → pc ≡ word_at s 0 pc_at → r ≡ form_of_fetch (fetch_at board mem cache pc)
+      → r ≡ Some (cached_fetched board mem s cache)
   unfolding is_shared is_fetch
   peeked f {pc} {r} h p e =
       let t : T (eqb core 0 && (is_running s core && (is_fetch mem after core && completes (effect_of board mem after core f)))) = T_of _ h in
@@ -222,7 +225,7 @@ module _ (board : Board) (mem s cache : List ℕ) (entry : Scheduled) where
       let same : word_at after core pc_at ≡ pc =
       latched_word s core entry.lines core pc_at (omega arith) (λ y. omega arith) ∙ ap (λ (c : ℕ). word_at s c pc_at) z ∙ sym p in
       let inside : leb (pc + 4) (length mem) ≡ true = of_T _ (rw same at i) in
-      e ∙ rw inside (ap (λ (n : ℕ). cached_form board mem cache (n / 4)) p)
+      e ∙ rw inside (ap (λ (n : ℕ). Some (cached_form board mem cache (n / 4))) p)
 
 -- ---- the same, as the code has it
 
@@ -240,12 +243,12 @@ module _ (mem s : List ℕ) (core lines limit : ℕ) (vectors cache : List ℕ) 
   first = fast_of mem s cache no_counts
 
   named : core < core_count s
-  named = r.names_cores_lem 0 (omega arith)
+  named = r.cores_there 0 (omega arith)
 
   pub core_0 : state_words ≤ length s
   core_0 = omega (arith, named)
 
-  module _ {mem' s' cache' : List ℕ} {m : Counts} (e : Finished lent_alone 0 cache mem' s' cache' m) where
+  module _ {mem' s' cache' : List ℕ} {m : Counts} (e : Finished lent_alone None cache mem' s' cache' m) where
     step_left : fast_of mem' s' cache' m ≡ fast_step lent_board first alone
     unfolding given_from scheduled
     step_left = e.left ∙ given_none lent_board first alone
@@ -263,14 +266,18 @@ module _ (mem s : List ℕ) (core lines limit : ℕ) (vectors cache : List ℕ) 
       once = step_small lent_board mem s cache alone step_left;
     }
 
-    -- it is
-    module _ (h : was_shared core m ≡ true) (l : length s' ≡ length s) {pc form : ℕ} (p : pc ≡ word_at s 0 pc_at) (f : form ≡ (fetch_at lent_board mem cache pc).entry) {before after : Flow}
+    -- it is: then the look-up before the step found its form
+    pub entry_found : was_shared core m ≡ true → {pc : ℕ} {r : Option ℕ} → pc ≡ word_at s 0 pc_at → r ≡ form_of_fetch (fetch_at lent_board mem cache pc)
+        → r ≡ Some (cached_fetched lent_board mem s cache)
+    entry_found h p f = peeked lent_board mem s cache alone (cached_fetched lent_board mem s cache) (told h) p f
+
+    module _ (h : was_shared core m ≡ true) (l : length s' ≡ length s) {form : ℕ} (f : Some form ≡ Some (cached_fetched lent_board mem s cache)) {before after : Flow}
         (b : before ≡ flow_at s 0) (a : after ≡ flow_at s' 0) where
       abbrev lead : Lead
       lead = record { form = form; before = before; after = after }
 
       form_is : form ≡ cached_fetched lent_board mem s cache
-      form_is = peeked lent_board mem s cache alone (cached_fetched lent_board mem s cache) (told h) p f
+      form_is = cc
 
       lead_is : lead ≡ lead_of (cached_fetched lent_board mem s cache) s s'
       lead_is = ap (λ (f : ℕ). record { form = f; before = before; after = after }) form_is ∙ ap₂ (λ (x y : Flow). record { form = cached_fetched lent_board mem s cache; before = x; after = y }) b a

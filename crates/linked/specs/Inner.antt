@@ -1,12 +1,13 @@
 -- What the parts of a run with linked cores promise one another. Nothing here is the papers': Linked and Run have that.
-use Rattle.std.specs.Prelude.{◌≡◌, ℕ, zero, suc, ◌+◌, ◌-◌, ◌<◌, Bool, true, false, ◌&&◌, ◌||◌, List, [], ◌==◌, ◌≢◌, if◌then◌else◌}
+use Rattle.std.specs.Prelude.{◌≡◌, ℕ, ◌-◌, ◌<◌, Bool, true, ◌&&◌, ◌||◌, List, [], ◌==◌, ◌≢◌, if◌then◌else◌}
+use Rattle.std.specs.List.{list_any, range_with_len}
 use Rattle.effect.specs.State.{mode_at, halted, linked}
 use Rattle.commit.specs.Commit.{word_at, put, core_count}
 use Rattle.lawful.specs.Inner.{LawfulFlow}
 use Rattle.refusal.specs.Lent.{Lent, lent, board_of}
 use Rattle.refusal.specs.Refusal.{max_schedule}
 use Rattle.steps.specs.Plain.{scheduled_by}
-use Rattle.steps.specs.Counts.{no_counts, AtMost}
+use Rattle.steps.specs.Counts.{no_counts, AtMost, added_to}
 use Rattle.steps.specs.Inner.{fast_of, IsForm, Runnable}
 use Rattle.steps.specs.declared.counts.Counts.{Counts}
 use Rattle.steps.specs.declared.Scheduled.{Scheduled}
@@ -16,10 +17,9 @@ use Rattle.linked.specs.declared.follow.Lead.{Lead}
 
 -- ---- cores in mode 1
 
--- one of the first n is
-unfoldable pub any_linked : ℕ → List ℕ → Bool
-any_linked zero s = false
-any_linked (suc n) s = any_linked n s || is_linked s n
+-- one is
+unfoldable pub any_linked : List ℕ → Bool
+any_linked s = list_any (is_linked s) (range_with_len 0 (core_count s))
 
 abbrev pub NoneLinked : List ℕ → Type 0
 NoneLinked s = (core : ℕ) → core < core_count s → word_at s core mode_at ≢ linked
@@ -46,7 +46,7 @@ pub record Leads (lead : Lead) : Type 0 where
   pub is_form : IsForm lead.form
   pub before_lawful : LawfulFlow lead.before
   pub after_lawful : LawfulFlow lead.after
-  pub outside_slot_lem : reads_nothing (lead_kind lead) ≡ true → lead.before.delay ≡ 0
+  pub no_slot : reads_nothing (lead_kind lead) ≡ true → lead.before.delay ≡ 0
 
 -- a core of l is linked and can follow a lead
 pub record Follows (l : Lent) (cache : List ℕ) (core : ℕ) (lead : Lead) : Type 0 where
@@ -54,7 +54,7 @@ pub record Follows (l : Lent) (cache : List ℕ) (core : ℕ) (lead : Lead) : Ty
   pub leads : Leads lead
   pub other : 0 < core
   pub inside : core < core_count l.states
-  pub is_linked_lem : word_at l.states core mode_at ≡ linked
+  pub core_linked : word_at l.states core mode_at ≡ linked
 
 -- it did
 abbrev pub Followed : Lent → List ℕ → ℕ → Lead → List ℕ → List ℕ → List ℕ → Type 0
@@ -72,9 +72,6 @@ AllFollowed l cache lead mem' s' cache' =
     shared mem' s' cache' ≡ followers (board_of l) lead (core_count l.states - 1) (shared l.memory l.states cache)
 
 -- ---- entries
-
-abbrev pub added_to : Counts → Counts → Counts
-added_to n m = record { executed = n.executed + m.executed; raised = n.raised + m.raised; reused = n.reused + m.reused }
 
 -- what an entry with these counts was: a fetch that core 0 completed
 abbrev pub was_shared : ℕ → Counts → Bool

@@ -1,4 +1,5 @@
-// A core's PC, delay and target.
+// A core's PC, delay and target. Functions and no methods, since Flow is the crate effect's and the states are lent as
+// a slice.
 ghost use Rattle.std.specs.Prelude.{◌≡◌, ◌+◌, ◌*◌, ◌≤◌, length};
 ghost use Rattle.effect.specs.State.{state_words};
 ghost use Rattle.linked.specs.Linked.{flow_at, with_flow};
@@ -18,6 +19,7 @@ pub fn of_core(states: &[u32], core: usize) -> Flow
     }
 }
 
+#[tactic(auto, unfolding(crate::specs::Linked::with_flow))]
 pub fn put(states: &mut [u32], core: usize, flow: Flow)
     requires { core * state_words + state_words ≤ length states.old }
     ensures { states.new ≡ with_flow states.old core flow }

@@ -9,6 +9,7 @@ ghost use Rattle.linked.specs.Inner.{unscheduled, reads_nothing, Follows, Follow
 use crate::{flow, modes};
 use effect::state;
 use effect::types::Flow;
+use isa::vectors::COUNT;
 
 // What core 0 hands to the linked cores: the form that it fetched and completed, and its flow before and after.
 #[derive(Clone, Copy)]
@@ -18,25 +19,14 @@ pub struct Lead {
     pub after: Flow,
 }
 
-// Copies the words of one part over those of another.
-fn copy(from: &[u32], to: &mut [u32])
-    requires { length from.now ≡ length to.old }
-    ensures { to.new ≡ from.now }
-{
-    let mut i = 0;
-    while i < from.len() {
-        to[i] = from[i];
-        i += 1;
-    }
-}
-
-// An instruction on the core's own registers, with core 0's flow lent. If it raises, the core has its words back and is halted.
+// An instruction on the core's own registers, with core 0's flow lent. If it raises, the core has its words back and is
+// halted.
 fn execute(
     memory: &mut [u8],
     states: &mut [u32],
     core: usize,
     limit: u32,
-    vectors: &[u32],
+    vectors: &[u32; COUNT],
     cache: &mut [u64],
     lead: Lead,
 )
@@ -47,14 +37,14 @@ fn execute(
     let base = core * state::STATE_WORDS;
     let end = base + state::STATE_WORDS;
     let mut own = [0u32; state::STATE_WORDS];
-    copy(&states[base..end], &mut own);
+    own.copy_from_slice(&states[base..end]);
     flow::put(states, core, lead.before);
     if steps::execute_form(memory, states, core as u8, limit, vectors, cache, lead.form) {
         flow::put(states, core, lead.after);
         modes::relink(states, core);
         return;
     }
-    copy(&own, &mut states[base..end]);
+    states[base..end].copy_from_slice(&own);
     modes::halt(states, core);
 }
 
@@ -73,13 +63,14 @@ fn call(states: &mut [u32], core: usize, lead: Lead)
     flow::put(states, core, lead.after);
 }
 
-// A linked core does what core 0 did. At l.rfe, l.jr and l.jalr it goes where core 0 goes, and nothing of its own is read.
+// A linked core does what core 0 did. At l.rfe, l.jr and l.jalr it goes where core 0 goes, and nothing of its own is
+// read.
 pub fn follow(
     memory: &mut [u8],
     states: &mut [u32],
     core: usize,
     limit: u32,
-    vectors: &[u32],
+    vectors: &[u32; COUNT],
     cache: &mut [u64],
     lead: Lead,
 )

@@ -1,7 +1,7 @@
 // Which cores are linked.
 ghost use Rattle.std.specs.Prelude.{◌≡◌, ◌+◌, ◌*◌, ◌≤◌, length};
 ghost use Rattle.effect.specs.State.{state_words, mode_at, halted};
-ghost use Rattle.commit.specs.Commit.{core_count, put};
+ghost use Rattle.commit.specs.Commit.{put};
 ghost use Rattle.linked.specs.Linked.{is_linked};
 ghost use Rattle.linked.specs.Inner.{any_linked, relinked};
 
@@ -14,18 +14,12 @@ pub fn is_linked(states: &[u32], core: usize) -> bool
     states[core * state::STATE_WORDS + state::MODE] == state::LINKED
 }
 
+#[tactic(auto, unfolding(crate::specs::Inner::any_linked))]
 pub fn any_linked(states: &[u32]) -> bool
-    ensures { result ≡ any_linked (core_count states.now) states.now }
+    ensures { result ≡ any_linked states.now }
 {
     let cores = states.len() / state::STATE_WORDS;
-    let mut core = 0;
-    while core < cores {
-        if is_linked(states, core) {
-            return true;
-        }
-        core += 1;
-    }
-    false
+    (0..cores).any(|core| is_linked(states, core))
 }
 
 // An instruction leaves its core halted or running: one that runs is linked again.

@@ -1,5 +1,6 @@
 #![tactic(auto)]
-// The interrupt controller of document 001 (PIC): line levels are latched in PICSR, and what is latched there interrupts its core.
+// The interrupt controller of document 001 (PIC): line levels are latched in PICSR, and what is latched there
+// interrupts its core.
 ghost use Rattle.std.specs.List.{fold};
 ghost use Rattle.std.specs.Int.Bits.{bit_or};
 ghost use Rattle.std.specs.Prelude.{◌≡◌};
@@ -44,8 +45,8 @@ fn none_latched(states: &[u32]) -> bool
     (0..cores).all(|core| states[core * STATE_WORDS + state::PICSR] == 0)
 }
 
-// No line is high in any of the levels, and none is latched of any core. Then nothing can interrupt while their entries are run, since no instruction
-// makes PICSR greater.
+// No line is high in any of the levels, and none is latched of any core. Then nothing can interrupt while their entries
+// are run, since no instruction makes PICSR greater.
 #[tactic(auto, unfolding(crate::specs::Inner::is_quiet))]
 pub fn quiet(states: &[u32], levels: &[u32]) -> bool
     ensures { result ≡ is_quiet states.now levels.now }

@@ -29,7 +29,7 @@ module _ (s : List ℕ) (entry : Scheduled) (h : entry.core * state_words + stat
       record {
         runs = mode_here ∙ d.runs;
         low = d.low;
-        none_latched_lem = ap (λ (own : List ℕ). word_at own 0 picsr_at) o ∙ own_word_at s entry.core h picsr_at (omega arith) ∙ d.none_latched_lem;
+        unlatched = ap (λ (own : List ℕ). word_at own 0 picsr_at) o ∙ own_word_at s entry.core h picsr_at (omega arith) ∙ d.unlatched;
       }
 
   pub start_here : (given : Option ℕ) {r : Start} → r ≡ start_of own (alone entry.lines) given → r ≡ start_of s entry given

@@ -221,7 +221,7 @@ module _ (s : List ℕ) (entry : Scheduled) (given : Option ℕ) where
   begins_undisturbed u =
       let same : latched s entry.core entry.lines ≡ s = ap (latched s entry.core) u.low ∙ latch_low s entry.core in
       begins_latched u.runs (sym same)
-      (sym (ap (λ (t : List ℕ). is_interrupted t entry.core) same ∙ none_interrupts s entry.core u.none_latched_lem))
+      (sym (ap (λ (t : List ℕ). is_interrupted t entry.core) same ∙ none_interrupts s entry.core u.unlatched))
 
   module _ {t : List ℕ} (q : t ≡ begun s entry) where
     latched_then : runs ≡ true → t ≡ latched s entry.core entry.lines
@@ -318,5 +318,5 @@ straight_undisturbed s₀ s levels entry i e m n h = go (is_quiet s₀ levels) r
     none (is_linked_lem h) z = omega arith
 
     go : (b : Bool) → is_quiet s₀ levels ≡ b → word_at s entry.core mode_at ≡ (if b then running else 4) → Undisturbed s entry
-    go true q z = record { runs = z; low = e ∙ quiet_low s₀ levels q i; none_latched_lem = n q }
+    go true q z = record { runs = z; low = e ∙ quiet_low s₀ levels q i; unlatched = n q }
     go false q z = absurd (none m z)

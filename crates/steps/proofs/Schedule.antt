@@ -208,7 +208,7 @@ module _ (mem s : List ℕ) (limit : ℕ) (vectors cache : List ℕ) (core form 
       record {
         memory = ap (λ (x : Fast). x.plain.memory) q;
         states = ap (λ (x : Fast). x.plain.states) q;
-        cache_left_lem = ap (λ (x : Fast). x.cache) q;
+        entries_left = ap (λ (x : Fast). x.cache) q;
         completed = ap (λ (x : Fast). eqb x.plain.raised 0) q ∙ ap (λ (k : ℕ). eqb k 0) (zero-add (raised_by (effect_of (board_of alone) mem s core form).outcome));
       }
 

@@ -57,8 +57,8 @@ Right board cache mem = (k : ℕ) → k < length cache → (get_or cache k 0 ≡
 pub record Runnable (l : Lent) (cache : List ℕ) : Type 0 where
   pub few_cores : core_count l.states ≤ 4
   pub few_entries : length l.schedule ≤ max_schedule
-  pub levels_fit_lem : length l.levels ≡ length l.schedule
-  pub names_cores_lem : (i : ℕ) → i < length l.schedule → get_or l.schedule i 0 < core_count l.states
+  pub one_level_each : length l.levels ≡ length l.schedule
+  pub cores_there : (i : ℕ) → i < length l.schedule → get_or l.schedule i 0 < core_count l.states
   pub seven_vectors : length l.vectors ≡ vector_count
   pub vectors_lawful : LawfulVectors l.vectors
   pub accepted : AllAccepted (board_of l) l.states
@@ -145,7 +145,7 @@ pub record Finished (l : Lent) (given : Option ℕ) (cache mem' s' cache' : List
 pub record FormExecuted (l : Lent) (cache : List ℕ) (core form : ℕ) (mem' s' cache' : List ℕ) (r : Bool) : Type 0 where
   pub memory : mem' ≡ memory_after l.memory (effect_of (board_of l) l.memory l.states core form)
   pub states : s' ≡ states_after l.vectors l.states core (effect_of (board_of l) l.memory l.states core form)
-  pub cache_left_lem : cache' ≡ emptied (effect_of (board_of l) l.memory l.states core form) cache
+  pub entries_left : cache' ≡ emptied (effect_of (board_of l) l.memory l.states core form) cache
   pub completed : r ≡ eqb (raised_by (effect_of (board_of l) l.memory l.states core form).outcome) 0
 
 -- ---- how an entry begins: the states then, and what comes next
@@ -169,7 +169,7 @@ start_of s entry given =
 pub record Undisturbed (s : List ℕ) (entry : Scheduled) : Type 0 where
   pub runs : word_at s entry.core mode_at ≡ running
   pub low : entry.lines ≡ 0
-  pub none_latched_lem : word_at s entry.core picsr_at ≡ 0
+  pub unlatched : word_at s entry.core picsr_at ≡ 0
 
 -- the mode of the cores that nothing can interrupt while the levels last; 4 is no mode
 unfoldable pub straight_mode : List ℕ → List ℕ → ℕ

@@ -10,7 +10,8 @@ use crate::Turn;
 use effect::types::Outcome;
 use std::ops::Add;
 
-// How many entries were executed, how many of them raised an exception, and how many found their word in the decode cache.
+// How many entries were executed, how many of them raised an exception, and how many found their word in the decode
+// cache.
 #[derive(Clone, Copy, Default)]
 pub struct Counts {
     pub executed: u32,

@@ -38,8 +38,8 @@ pub enum Turn {
     Instruction(Outcome, bool),
 }
 
-// One instruction of a core that is not interrupted: how it ends. A filled entry of the cache is executed as it stands, whatever word memory holds there; so is a
-// form that is given in place of a fetch.
+// One instruction of a core that is not interrupted: how it ends. A filled entry of the cache is executed as it stands,
+// whatever word memory holds there; so is a form that is given in place of a fetch.
 fn instruction(
     board: Board,
     memory: &mut [u8],
@@ -64,7 +64,8 @@ fn instruction(
     Turn::Instruction(done.outcome, f.reused)
 }
 
-// How an entry of the schedule begins: its core does nothing, is interrupted, or executes: a form that it is given, or what it fetches.
+// How an entry of the schedule begins: its core does nothing, is interrupted, or executes: a form that it is given, or
+// what it fetches.
 #[derive(Clone, Copy)]
 pub enum Start {
     Idle,
@@ -72,8 +73,8 @@ pub enum Start {
     Execute(Option<u64>),
 }
 
-// Latches the lines of a running core. One in the mode `straight` runs and nothing can interrupt it, so most entries need no test but that of the mode. A linked
-// core executes what is given, if anything is.
+// Latches the lines of a running core. One in the mode `straight` runs and nothing can interrupt it, so most entries
+// need no test but that of the mode. A linked core executes what is given, if anything is.
 fn begin(
     own: &mut [u32; STATE_WORDS],
     lines: u32,
@@ -124,7 +125,8 @@ fn step(
     }
 }
 
-// A mode that no core has.
+// A mode that no core has. A mode or none in one number, and no flag beside the mode, since the flag's test costs 4
+// machine instructions (of 80) an entry.
 const NO_MODE: u32 = 4;
 
 // The mode whose cores nothing can interrupt while these levels last: running, or none.
@@ -138,8 +140,9 @@ fn straight_mode(states: &[u32], levels: &[u32]) -> u32
     NO_MODE
 }
 
-// The schedule's entries, in order; a linked core's executes the form that is given, if one is. Everything that executes shares this loop: exec::execute has
-// one caller, so the compiler inlines it here.
+// The schedule's entries, in order; a linked core's executes the form that is given, if one is. Everything that
+// executes shares this loop: exec::execute has one caller, so the compiler inlines it here. By index, since a zip looks
+// for the end of both lists at each entry.
 fn entries(
     memory: &mut [u8],
     states: &mut [u32],

@@ -11,6 +11,6 @@ returns c =
     let run = c.run.ensures in
     let none = none_linked a.states.now (sym c.any_linked.ensures ∙ c.if-any_linked.false) in
     record {
-      left = run.left ∙ sym (from_alone _ p.vectors_lawful a.schedule.now a.levels.now (fast_of a.memory.now a.states.now a.cache.now no_counts) p.names_cores_lem p.accepted p.right none);
+      left = run.left ∙ sym (from_alone _ p.vectors_lawful a.schedule.now a.levels.now (fast_of a.memory.now a.states.now a.cache.now no_counts) p.cores_there p.accepted p.right none);
       small = run.small;
     }

@@ -17,4 +17,4 @@ pub returns : goal.returns
 returns c =
     let a = c.args in
     let n = a.core * state_words + state_words - a.core * state_words in
-    executes_raised a.memory.now a.states.now a.limit a.vectors.now a.cache.now a.core a.lead c.requires.follows c.put.ensures c.requires.reads_state c.execute_form.ensures n (omega arith) c.if-execute_form.false c.copy.ensures c.copy-2.ensures c.halt.ensures
+    executes_raised a.memory.now a.states.now a.limit a.vectors.now a.cache.now a.core a.lead c.requires.follows c.put.ensures c.requires.reads_state c.execute_form.ensures n (omega arith) c.if-execute_form.false c.copy_from_slice.ensures.after c.copy_from_slice-2.ensures.after c.halt.ensures

@@ -1,4 +1,4 @@
-use Rattle.std.proofs.Common.{◌≡◌, ◌-◌, ◌≤◌, length, drop}
+use Rattle.std.proofs.Common.{◌≡◌, drop}
 use Rattle.lawful.specs.Accepted.{AllAccepted}
 use Rattle.refusal.specs.Lent.{lent, board_of}
 use Rattle.steps.specs.Plain.{scheduled}
@@ -9,16 +9,10 @@ use Rattle.linked.proofs.led.entries.Given as goal
 
 abbrev pub invariant-loop-i : goal.invariant-loop-i
 invariant-loop-i l =
-    let board = board_of (lent l.initial.memory l.initial.states l.schedule l.levels l.limit l.vectors) in
-    (fast_from board (scheduled (drop l.i l.schedule) (drop l.i l.levels)) (fast_of l.memory l.states l.cache l.counts)
-    ≡ fast_from board (scheduled l.schedule l.levels) (fast_of l.initial.memory l.initial.states l.initial.cache no_counts))
-    × AtMost l.i l.counts
-    × (l.i ≤ length l.schedule)
-    × (length l.memory ≡ length l.initial.memory)
-    × (length l.states ≡ length l.initial.states)
-    × (length l.cache ≡ length l.initial.cache)
-    × AllAccepted board l.states
-    × Right board l.cache l.memory
-
-abbrev pub decreases-loop-i : goal.decreases-loop-i
-decreases-loop-i l = length l.schedule - l.i
+    let board = board_of (lent l.initial.memory l.initial.states l.schedule l.levels l.limit l.vectors) in record {
+      left : fast_from board (scheduled (drop l.i l.schedule) (drop l.i l.levels)) (fast_of l.memory l.states l.cache l.counts)
+          ≡ fast_from board (scheduled l.schedule l.levels) (fast_of l.initial.memory l.initial.states l.initial.cache no_counts);
+      small : AtMost l.i l.counts;
+      accepted : AllAccepted board l.states;
+      right : Right board l.cache l.memory;
+    }

@@ -9,7 +9,7 @@ follow-requires c =
       leads = c.requires.leads;
       other = c.requires.core_nonzero.0;
       inside = c.requires.core_nonzero.1;
-      is_linked_lem = eqb-true _ linked (sym c.is_linked.ensures ∙ c.if-is_linked.true);
+      core_linked = eqb-true _ linked (sym c.is_linked.ensures ∙ c.if-is_linked.true);
     }
 
 pub returns-then-is_linked : goal.returns-then-is_linked

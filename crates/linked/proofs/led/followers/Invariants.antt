@@ -1,4 +1,4 @@
-use Rattle.std.proofs.Common.{◌≡◌, ◌-◌, ◌<◌, ◌≤◌, length}
+use Rattle.std.proofs.Common.{◌≡◌, ◌-◌, ◌≤◌}
 use Rattle.commit.specs.Commit.{core_count}
 use Rattle.refusal.specs.Lent.{board_of}
 use Rattle.linked.specs.Linked.{followers}
@@ -6,13 +6,8 @@ use Rattle.linked.specs.Inner.{unscheduled, shared}
 use Rattle.linked.proofs.led.followers.Given as goal
 
 abbrev pub invariant-loop-core : goal.invariant-loop-core
-invariant-loop-core l =
-    (shared l.memory l.states l.cache ≡ followers (board_of (unscheduled l.initial.memory l.initial.states l.limit l.vectors)) l.lead (l.core - 1) (shared l.initial.memory l.initial.states l.initial.cache))
-    × (0 < l.core)
-    × (l.core - 1 ≤ core_count l.initial.states - 1)
-    × (length l.memory ≡ length l.initial.memory)
-    × (length l.states ≡ length l.initial.states)
-    × (length l.cache ≡ length l.initial.cache)
-
-abbrev pub decreases-loop-core : goal.decreases-loop-core
-decreases-loop-core l = core_count l.initial.states - l.core
+invariant-loop-core l = record {
+  left : shared l.memory l.states l.cache
+      ≡ followers (board_of (unscheduled l.initial.memory l.initial.states l.limit l.vectors)) l.lead (l.core - 1) (shared l.initial.memory l.initial.states l.initial.cache);
+  inside : l.core - 1 ≤ core_count l.initial.states - 1;
+}
