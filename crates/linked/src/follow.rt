@@ -9,6 +9,7 @@ ghost use Rattle.linked.specs.Inner.{unscheduled, reads_nothing, Follows, Follow
 use crate::{flow, modes};
 use effect::state;
 use effect::types::Flow;
+use isa::vectors::COUNT;
 
 // What core 0 hands to the linked cores: the form that it fetched and completed, and its flow before and after.
 #[derive(Clone, Copy)]
@@ -25,7 +26,7 @@ fn execute(
     states: &mut [u32],
     core: usize,
     limit: u32,
-    vectors: &[u32],
+    vectors: &[u32; COUNT],
     cache: &mut [u64],
     lead: Lead,
 )
@@ -69,7 +70,7 @@ pub fn follow(
     states: &mut [u32],
     core: usize,
     limit: u32,
-    vectors: &[u32],
+    vectors: &[u32; COUNT],
     cache: &mut [u64],
     lead: Lead,
 )

@@ -8,6 +8,7 @@ ghost use Rattle.linked.specs.Inner.{unscheduled, Leads, FollowedIf, AllFollowed
 use crate::follow::Lead;
 use crate::{flow, follow, modes};
 use effect::state;
+use isa::vectors::COUNT;
 use steps::counts::Counts;
 
 // The core follows if it is linked.
@@ -16,7 +17,7 @@ fn follow_if_linked(
     states: &mut [u32],
     core: usize,
     limit: u32,
-    vectors: &[u32],
+    vectors: &[u32; COUNT],
     cache: &mut [u64],
     lead: Lead,
 )
@@ -35,7 +36,7 @@ fn followers(
     memory: &mut [u8],
     states: &mut [u32],
     limit: u32,
-    vectors: &[u32],
+    vectors: &[u32; COUNT],
     cache: &mut [u64],
     lead: Lead,
 )
@@ -63,7 +64,7 @@ fn entry(
     core: u8,
     lines: u32,
     limit: u32,
-    vectors: &[u32],
+    vectors: &[u32; COUNT],
     cache: &mut [u64],
 ) -> Counts
     requires { Runnable (lent memory.old states.old (core ∷ []) (lines ∷ []) limit vectors.now) cache.old }
@@ -91,7 +92,7 @@ pub fn entries(
     schedule: &[u8],
     levels: &[u32],
     limit: u32,
-    vectors: &[u32],
+    vectors: &[u32; COUNT],
     cache: &mut [u64],
 ) -> Counts
     requires { Runnable (lent memory.old states.old schedule.now levels.now limit vectors.now) cache.old }

@@ -24,6 +24,7 @@ pub fn run(
     requires { Runnable (lent memory.old states.old schedule.now levels.now limit vectors.now) cache.old }
     ensures { Finished (lent memory.old states.old schedule.now levels.now limit vectors.now) cache.old memory.new states.new cache.new result }
 {
+    let vectors = vectors.as_array().unwrap();
     if modes::any_linked(states) {
         return led::entries(memory, states, schedule, levels, limit, vectors, cache);
     }

@@ -9,6 +9,7 @@ use Rattle.std.specs.Prelude.{if◌then◌else◌}
 use Rattle.std.specs.declared.option.Option.{Option}
 use Rattle.std.specs.declared.option.Option.TheVariants.{None}
 use Rattle.effect.specs.State.{state_words, own_words, with_own_words, mode_at, picsr_at}
+use Rattle.commit.specs.Commit.{word_at}
 use Rattle.commit.proofs.Own.{own_length, own_word_at, own_same, own_words_of, own_again}
 use Rattle.pic.specs.Interrupt.{latched}
 use Rattle.pic.proofs.Latched.{length_latched, interrupted_own, latched_own, own_latched}
@@ -19,12 +20,16 @@ use Rattle.steps.specs.declared.Start.{Start}
 use Rattle.steps.proofs.Cases.{begun_length}
 
 module _ (s : List ℕ) (entry : Scheduled) (h : entry.core * state_words + state_words ≤ length s) {own : List ℕ} (o : own ≡ own_words s entry.core) where
-  pub undisturbed_here : Undisturbed s entry → Undisturbed own (alone entry.lines)
-  undisturbed_here u =
-      rw o record {
-        runs = own_word_at s entry.core h mode_at (omega arith) ∙ u.runs;
-        low = u.low;
-        none_latched_lem = own_word_at s entry.core h picsr_at (omega arith) ∙ u.none_latched_lem;
+  mode_here : word_at own 0 mode_at ≡ word_at s entry.core mode_at
+  mode_here = ap (λ (own : List ℕ). word_at own 0 mode_at) o ∙ own_word_at s entry.core h mode_at (omega arith)
+
+  pub undisturbed_here : {m : ℕ} → (word_at s entry.core mode_at ≡ m → Undisturbed s entry) → word_at own 0 mode_at ≡ m → Undisturbed own (alone entry.lines)
+  undisturbed_here u e =
+      let d = u (sym mode_here ∙ e) in
+      record {
+        runs = mode_here ∙ d.runs;
+        low = d.low;
+        unlatched = ap (λ (own : List ℕ). word_at own 0 picsr_at) o ∙ own_word_at s entry.core h picsr_at (omega arith) ∙ d.unlatched;
       }
 
   pub start_here : (given : Option ℕ) {r : Start} → r ≡ start_of own (alone entry.lines) given → r ≡ start_of s entry given
@@ -51,5 +56,5 @@ module _ (s : List ℕ) (entry : Scheduled) (h : entry.core * state_words + stat
     pub begun_words : own' ≡ own_words (begun s entry) entry.core
     begun_words = sym (own_words_of s entry.core h own' words) ∙ ap (λ (t : List ℕ). own_words t entry.core) begun_with
 
-    pub begun_again : {own'' s' : List ℕ} → s' ≡ with_own_words s entry.core own'' → s' ≡ with_own_words (begun s entry) entry.core own''
-    begun_again {own''} w = w ∙ sym (own_again s entry.core h own' words own'') ∙ ap (λ (t : List ℕ). with_own_words t entry.core own'') begun_with
+    pub begun_again : (own'' : List ℕ) {s' : List ℕ} → s' ≡ with_own_words s entry.core own'' → s' ≡ with_own_words (begun s entry) entry.core own''
+    begun_again own'' w = w ∙ sym (own_again s entry.core h own' words own'') ∙ ap (λ (t : List ℕ). with_own_words t entry.core own'') begun_with

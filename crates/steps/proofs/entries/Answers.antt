@@ -1,6 +1,7 @@
 use mathlib.Core.Path.{refl, sym, ap, ◌∙◌}
 use Prim.Native.Nat.{◌<◌}
 use native.Mathlib.Omega.{arith}
+use lib.ListN.{get_or}
 use Rattle.commit.specs.Commit.{core_count}
 use Rattle.pic.proofs.Silent.{quiet_latched, quiet_low}
 use Rattle.steps.specs.Inner.{fast_of, given_from}
@@ -24,12 +25,12 @@ pub step-turn-requires-clause-pc_aligned : goal.step-turn-requires-clause-pc_ali
 step-turn-requires-clause-pc_aligned c =
     let l = c.loop-i in
     let n = c.requires.runnable.cores_there l.i c.loop-i-test.true in
-    (l.invariant.accepted c.from.result (omega (arith, n))).flow_lawful.pc_multiple
+    (l.invariant.accepted _ (omega (arith, n))).flow_lawful.pc_multiple
 
 pub step-turn-requires-clause-undisturbed : goal.step-turn-requires-clause-undisturbed
 step-turn-requires-clause-undisturbed c =
     let l = c.loop-i in
-    let core = c.from.result in
+    let core = get_or c.args.schedule.now l.i 0 in
     let n = c.requires.runnable.cores_there l.i c.loop-i-test.true in
     let h : core < core_count l.states = omega (arith, n) in
     λ q. straight_undisturbed _ _ _ _ l.i refl (l.invariant.accepted core h).mode_lawful (λ z. l.invariant.unlatched z core h) (q ∙ c.straight_mode-straight.ensures)
@@ -42,13 +43,13 @@ loop-i-preserved c =
     let f = c.step-turn in
     let q = c.after-counts.ensures in
     let n = p.cores_there l.i test in
-    let h : c.from.result < core_count l.states = omega (arith, n) in
+    let h : get_or c.args.schedule.now l.i 0 < core_count l.states = omega (arith, n) in
     let e = ap (fast_of _ _ _) q.0 ∙ f.ensures.left l.counts in
     let kept = given_kept _ _ _ _ h l.invariant.accepted l.invariant.right c.requires.form e p.vectors_lawful in
     record {
       left =
           ap (given_from _ _ _) e
-          ∙ sym (from_next _ _ _ _ l.i _ c.from.ensures test (omega (arith, test, p.one_level_each)))
+          ∙ sym (from_next _ _ _ _ l.i _ refl test (omega (arith, test, p.one_level_each)))
           ∙ l.invariant.left;
       small = grown l.i l.invariant.small q.1;
       accepted = kept.0;
