@@ -25,7 +25,7 @@ impl Width {
         }
     }
 
-    // The width of so many bytes.
+    // The width of so many bytes, while a store of `effect` keeps its width as a number.
     pub fn of(n: u32) -> Width
         requires { IsWidth n }
         ensures { bytes result ≡ n }
@@ -38,8 +38,8 @@ impl Width {
     }
 }
 
-// The test that comes before every access, in a memory of len bytes: it may go on, or it raises an exception. Stores and l.swa pass the run's limit;
-// loads, l.lwa and p.* pass 0.
+// The test that comes before every access, in a memory of len bytes: it may go on, or it raises an exception. Stores and
+// l.swa pass the run's limit; loads, l.lwa and p.* pass 0.
 #[tactic(auto, using(crate::proofs::Bytes::mask_aligned), unfolding(crate::specs::Memory::access))]
 pub fn test(limit: u32, len: usize, address: u32, width: Width) -> Result<(), Cause>
     ensures { cause_of result ≡ access (bytes width) limit len address }
