@@ -1,4 +1,5 @@
-// Loads, stores and the cache instructions: each tests its access first. Stores and l.swa are held against the limit of what is read-only.
+// Loads, stores and the cache instructions: each tests its access first. Stores and l.swa are held against the limit of
+// what is read-only.
 ghost use Rattle.std.specs.Prelude.{◌≡◌, if◌then◌else◌};
 ghost use Rattle.memory.specs.Memory.{bytes};
 ghost use Rattle.memory.specs.declared.Width.TheVariants.{Word};

@@ -195,6 +195,6 @@ pub fn decode(w: u32) -> u64
     ensures { result ≡ decodeOf w }
 {
     let k = kind_of(w);
-    let shape = isa::kinds::shape_of(isa::kinds::layout_of(k));
+    let (_, shape) = isa::kinds::parts_of(k);
     isa::entry::pack(k, fields(shape, w))
 }

@@ -61,7 +61,7 @@ pub fn encode(e: u64) -> Option<u32>
     if groups::KINDS <= k as usize {
         return None;
     }
-    let shape = isa::kinds::shape_of(isa::kinds::layout_of(k));
+    let (word, shape) = isa::kinds::parts_of(k);
     let fields = field_word(shape, isa::entry::unpack(e));
-    checked(e, isa::kinds::bare_word(k) + fields)
+    checked(e, word + fields)
 }

@@ -4,5 +4,4 @@ pub mod Pictures
 pub mod Registers
 pub mod Rows
 pub mod Shapes
-pub mod Tags
 pub mod OldList

@@ -1,7 +1,7 @@
 -- The places of a picture's fields, and the computed test that the code's shapes are the rows'. Assumes nothing.
 use mathlib.Core.Path.{◌≡◌, refl, ◌∙◌, subst, sym, ap, ap₂}
 use mathlib.Core.Bool.{Bool, true, false, ◌&&◌}
-use mathlib.Core.List.{List, [], ◌∷◌, map}
+use mathlib.Core.List.{List, [], ◌∷◌}
 use Prim.Native.Nat.{ℕ, zero, suc, ◌+◌, ◌*◌, ◌/◌, ◌%◌, ◌^◌, ◌<◌}
 use native.Mathlib.Nat.{mod-one, mod-mod, add-mul, mul_assoc, div-one, div-eq_of_lt, add-zero, zero-add, add-suc, suc-add, le_of_suc-le-suc, not-suc-le-zero}
 use native.Mathlib.Omega.{arith}
@@ -10,7 +10,7 @@ use lib.Dec.{T, eqb, ltb, eqb→eq, ltb→lt}
 use lib.ListN.{length, get_or}
 use Rattle.std.specs.Prelude.{if◌then◌else◌}
 use Rattle.bits.specs.Word.{field, bit_at}
-use Rattle.bits.proofs.Tests.{and_left, and_right, within, all_entries, at_entry}
+use Rattle.bits.proofs.Tests.{and_left, and_right, within}
 use Rattle.isa.specs.Groups.{kinds}
 use Rattle.isa.specs.InstructionSet as set
 use Rattle.isa.specs.InstructionSet.{Field, D, A, B, I, Mark, must, of, reserved, Row, rows, row_of, kind_row, same_field, width, read, entry, fill, value, immediate_bits, word_for}
@@ -355,16 +355,11 @@ heads e = cc
 tails : {A : Type 0} {x y : A} {xs ys : List A} → x ∷ xs ≡ y ∷ ys → xs ≡ ys
 tails e = cc
 
-table_from : {A : Type 0} (f g : ℕ → A) (i : ℕ) (ns : List ℕ) → map f ns ≡ values_from g i (length ns) → (k : ℕ) → k < length ns → f (get_or ns k 0) ≡ g (i + k)
-table_from f g i [] e k h = absurd (not-suc-le-zero h)
-table_from f g i (n ∷ ns) e zero h = heads e ∙ ap g (sym (add-zero i))
-table_from f g i (n ∷ ns) e (suc k) h = table_from f g (suc i) ns (tails e) k (le_of_suc-le-suc h) ∙ ap g (suc-add i k ∙ sym (add-suc i k))
+table_from : {A : Type 0} (g : ℕ → A) (i : ℕ) (xs : List A) → xs ≡ values_from g i (length xs) → (k : ℕ) (d : A) → k < length xs → get_or xs k d ≡ g (i + k)
+table_from g i [] e k d h = absurd (not-suc-le-zero h)
+table_from g i (x ∷ xs) e zero d h = heads e ∙ ap g (sym (add-zero i))
+table_from g i (x ∷ xs) e (suc k) d h = table_from g (suc i) xs (tails e) k d (le_of_suc-le-suc h) ∙ ap g (suc-add i k ∙ sym (add-suc i k))
 
--- a table of arguments of f, for which f computes to g at each place
-pub table_values : {A : Type 0} (f g : ℕ → A) (ns : List ℕ) → map f ns ≡ values_from g 0 (length ns) → (k : ℕ) → k < length ns → f (get_or ns k 0) ≡ g k
-table_values f g ns e k h = table_from f g 0 ns e k h ∙ ap g (zero-add k)
-
--- a table of words, each that of its kind with every field 0
-pub bare_words : (ws : List ℕ) → T (all_entries (λ k n. eqb n (word_for (kind_row k) 0)) 0 ws) → (k : ℕ) → k < length ws →
-    get_or ws k 0 ≡ word_for (kind_row k) 0
-bare_words ws t k h = eqb→eq (get_or ws k 0) (word_for (kind_row k) 0) (at_entry (λ k n. eqb n (word_for (kind_row k) 0)) 0 ws t k h)
+-- a table that computes to g at each place
+pub table_values : {A : Type 0} (g : ℕ → A) (xs : List A) → xs ≡ values_from g 0 (length xs) → (k : ℕ) (d : A) → k < length xs → get_or xs k d ≡ g k
+table_values g xs e k d h = table_from g 0 xs e k d h ∙ ap g (zero-add k)

@@ -1,6 +1,6 @@
 -- How the decoder and the encoder cut the instruction set into parts: the kind by a few bits, the shape of a kind, the place of the immediate.
 -- The instruction set itself is InstructionSet.antt; that these parts are its is proved (proofs/Rows.antt, Shapes.antt).
-use Rattle.std.specs.Prelude.{Bool, false, ◌&&◌, List, [], ◌∷◌, ℕ, ◌+◌, ◌-◌, ◌*◌, ◌/◌, ◌%◌, ◌^◌, eqb, leb, ltb, if◌then◌else◌}
+use Rattle.std.specs.Prelude.{Bool, false, ◌&&◌, List, [], ◌∷◌, ℕ, ◌+◌, ◌-◌, ◌*◌, ◌%◌, ◌^◌, eqb, leb, ltb, if◌then◌else◌}
 use Rattle.bits.specs.Word.{field}
 use Rattle.isa.specs.InstructionSet as set
 use Rattle.isa.specs.InstructionSet.{Mark, must, of, reserved, Row, rows, first_fit, same_field, width, immediate, pack, immediate_bits}
@@ -51,24 +51,6 @@ scattered Split n = field n 11 5 * 2 ^ 21 + n % 2 ^ 11
 
 abbrev pub shape : Bool → Bool → Bool → Place → Form → Shape
 shape d a b p f = record { d = d; a = a; b = b; place = p; form = f }
-
--- the number of a layout: 1 if it has D, 2 if A, 4 if B; 8 times its immediate's place; 64 times its form
-abbrev pub place_at : ℕ → Place
-place_at n =
-    if eqb n 0 then None else
-    if eqb n 1 then Low5 else
-    if eqb n 2 then Low16 else
-    if eqb n 3 then Low26 else
-    Split
-
-abbrev pub form_at : ℕ → Form
-form_at n =
-    if eqb n 0 then Zext else
-    if eqb n 1 then Sext else
-    Jump
-
-abbrev pub shape_of : ℕ → Shape
-shape_of n = shape (eqb (n % 2) 1) (eqb (n / 2 % 2) 1) (eqb (n / 4 % 2) 1) (place_at (n / 8 % 8)) (form_at (n / 64))
 
 -- the fields of a word of that shape, and the bits that an entry's fields take in it
 abbrev pub fields_in : Shape → ℕ → Fields

@@ -26,7 +26,8 @@ pub fn default_list() -> [u32; COUNT]
     VECTORS
 }
 
-// The place of a cause in a list.
+// The place of a cause in a list. A match, and no cast of the enum, since must-fail/trap_by_the_vector_before gives one
+// cause alone another's number.
 fn place(cause: Cause) -> usize
     ensures { (result ≡ place_of cause) × (result < vector_count) }
 {
