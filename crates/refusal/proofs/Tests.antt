@@ -1,16 +1,15 @@
 -- Tests over numbers and lists, as a loop makes them, and the first of a list of rules that is broken. Assumes nothing.
 use mathlib.Core.Bool.{Bool, true, false, ◌&&◌, and_assoc}
 use mathlib.Core.List.{List, [], ◌∷◌, ◌++◌}
-use mathlib.Core.Path.{◌≡◌, refl, sym, ◌∙◌}
+use mathlib.Core.Path.{◌≡◌, ap, refl, sym, ◌∙◌}
 use Prim.Native.Nat.{ℕ, zero, suc, max, ◌+◌, ◌*◌, ◌<◌, ◌≤◌}
-use native.Mathlib.Numerals.{add-one}
 use native.Mathlib.Omega.{arith}
 use lib.Dec.{T, ltb, ltb→lt}
-use lib.ListN.{length, get_or, drop, drop_of_length-le}
+use lib.ListN.{length, get_or, drop, drop_of_length-le, take}
 use lib.Seq.{drop-cons}
 use Rattle.std.specs.Prelude.{if◌then◌else◌, Option, fold}
 use Rattle.std.specs.Option.{MatchOption}
-use Rattle.std.specs.List.{reduce}
+use Rattle.std.specs.List.{reduce, list_all, enumerate_from}
 use Rattle.std.proofs.lemmas.Bool.Decides.{nat_tests}
 use Rattle.bits.proofs.Tests.{and_left, and_right, and_both, of_T}
 use Rattle.effect.specs.State.{state_words, own_words, pc_at, delay_at, target_at, sr_at, epcr_at, esr_at, link_at, link_address_at, mode_at, picmr_at, all, rules}
@@ -31,18 +30,11 @@ pass p l = rw p
 -- ---- every element of a list
 
 module _ (f : ℕ → ℕ → Bool) where
-  module _ (l : List ℕ) (i : ℕ) where
-    pub from_stop : i < length l → f i (get_or l i 0) ≡ false → every_from f i (drop i l) ≡ false
-    unfolding every_from
-    from_stop h g = rw (drop-cons l i 0 h, g)
-
-    pub from_on : i < length l → f i (get_or l i 0) ≡ true → every_from f i (drop i l) ≡ every_from f (i + 1) (drop (i + 1) l)
-    unfolding every_from
-    from_on h g = rw (drop-cons l i 0 h, g, add-one)
-
-    pub from_end : length l ≤ i → every_from f i (drop i l) ≡ true
-    unfolding every_from
-    from_end h = rw (drop_of_length-le l h)
+  -- what `all` makes of them and their places
+  pub all_from : (l : List ℕ) (i : ℕ) → list_all (λ (p : ℕ × ℕ). f p.0 p.1) (enumerate_from i l) ≡ every_from f i l
+  unfolding every_from
+  all_from [] i = refl
+  all_from (x ∷ l) i = ap (λ (b : Bool). f i x && b) (all_from l (i + 1))
 
   pub from_at : (l : List ℕ) (i : ℕ) → T (every_from f i l) → (k : ℕ) → k < length l → T (f (i + k) (get_or l k 0))
   unfolding every_from

@@ -16,10 +16,5 @@ pub fn entries_right(memory: &[u8], cache: &[u64]) -> bool
     requires { length cache.now ≡ length memory.now / 4 }
     ensures { (board : Board) → result ≡ entries_right board memory.now cache.now }
 {
-    for (k, &entry) in cache.iter().enumerate() {
-        if !entry_right(memory, k, entry) {
-            return false;
-        }
-    }
-    true
+    cache.iter().enumerate().all(|(k, &entry)| entry_right(memory, k, entry))
 }
