@@ -15,7 +15,8 @@ use Rattle.print.specs.Inner.{Put}
 use Rattle.print.proofs.Places.{decimal_le, length_hexadecimal}
 use Rattle.report.specs.Answer.{counts_room, core_room, refusal_room, answer, written}
 use Rattle.report.specs.Result.{registers, count_lines, core_line, register_line, register_lines, core_text, core_texts, refusal_text}
-use Rattle.report.specs.declared.Written.TheVariants.{Bytes, TooSmall}
+use Rattle.std.specs.Prelude.{Result, Ok, Err}
+use Rattle.report.specs.declared.TooSmall.{TooSmall}
 use Rattle.report.proofs.Lines.{register_zero, register_other}
 
 pub word_le : (n : ℕ) → n < 2 ^ 32 → length (decimal n) ≤ 10
@@ -85,16 +86,16 @@ cores_le core (suc n) states h w =
     simp length-append (omega arith)
 
 -- the answer, and what is left, in each case
-pub too_small : (room : ℕ) (text out : List ℕ) → length out < room → (TooSmall ≡ answer room text out) × (out ≡ written room text out)
+pub too_small : (room : ℕ) (text out : List ℕ) → length out < room → (Err (record {}) ≡ answer room text out) × (out ≡ written room text out)
 unfolding answer written
 too_small room text out h = (rw (lt-ltb (length out) room h), rw (lt-ltb (length out) room h))
 
 pub fits : {out text after : List ℕ} {next : ℕ} → (room : ℕ) → room ≤ length out → length text ≤ room → Put out 0 text after next →
-    (Bytes next ≡ answer room text out) × (after ≡ written room text out)
+    (Ok next ≡ answer room text out) × (after ≡ written room text out)
 unfolding answer written
 fits {out} {text} {after} {next} room h l p =
     let z : 0 + length text ≡ length text = omega arith in
     let e : next ≡ length text = p.ends ∙ z in (
-      rw (le-ltb (length out) room h) (ap Bytes e),
+      rw (le-ltb (length out) room h) (ap (λ (k : ℕ). Ok k) e),
       rw (le-ltb (length out) room h) (p.stored ∙ sets-eq text out 0 (omega arith) ∙ ap (λ k. text ++ drop k out) z),
     )

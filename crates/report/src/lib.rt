@@ -20,12 +20,9 @@ pub const CORE_ROOM: usize = 83 + REGISTERS * 13;
 
 const REFUSAL_ROOM: usize = 35;
 
-// How many bytes were written; or that the bytes lent are too few for the longest text, and nothing was written.
-#[derive(Clone, Copy)]
-pub enum Written {
-    Bytes(usize),
-    TooSmall,
-}
+// The bytes lent are too few for the longest text, and nothing was written.
+#[derive(Clone, Copy, Debug, PartialEq, Eq)]
+pub struct TooSmall;
 
 // Each function put_.. puts its text into out from at on and returns the place past it.
 
@@ -106,32 +103,32 @@ fn put_cores(out: &mut [u8], at: usize, states: &[u32]) -> usize
     next
 }
 
-// A run's counts, its cores with their registers, and `end`. Words of states after the last whole state are not read.
-pub fn write_result(out: &mut [u8], counts: Counts, states: &[u32]) -> Written
+// A run's counts, its cores with their registers, and `end`; and how many bytes that is. Words of states after the last whole state are not read.
+pub fn write_result(out: &mut [u8], counts: Counts, states: &[u32]) -> Result<usize, TooSmall>
     ensures answered { result ≡ answer (result_room (cores_of states.now)) (result_text counts states.now) out.old }
     ensures left { out.new ≡ written (result_room (cores_of states.now)) (result_text counts states.now) out.old }
 {
     let cores = states.len() / STATE_WORDS;
     if out.len() < ENDS_ROOM {
-        return Written::TooSmall;
+        return Err(TooSmall);
     }
     if (out.len() - ENDS_ROOM) / CORE_ROOM < cores {
-        return Written::TooSmall;
+        return Err(TooSmall);
     }
     let at = put_counts(out, 0, counts);
     let at = put_cores(out, at, states);
-    Written::Bytes(print::put_bytes(out, at, b"end\n"))
+    Ok(print::put_bytes(out, at, b"end\n"))
 }
 
 // The number by which a job is refused, and the line of its card.
-pub fn write_refusal(out: &mut [u8], number: u32, line: u32) -> Written
+pub fn write_refusal(out: &mut [u8], number: u32, line: u32) -> Result<usize, TooSmall>
     ensures answered { result ≡ answer refusal_room (refusal_text number line) out.old }
     ensures left { out.new ≡ written refusal_room (refusal_text number line) out.old }
 {
     if out.len() < REFUSAL_ROOM {
-        return Written::TooSmall;
+        return Err(TooSmall);
     }
     let at = print::put_keyed_decimal(out, 0, b"refused=", number as u64);
     let at = print::put_keyed_decimal(out, at, b" line=", line as u64);
-    Written::Bytes(print::put_bytes(out, at, b"\n"))
+    Ok(print::put_bytes(out, at, b"\n"))
 }

@@ -4,7 +4,6 @@
 ghost use Rattle.std.specs.Prelude.{◌≡◌, ◌≤◌, length};
 ghost use Rattle.runner.specs.Inner.{Within, More, unopened_by, opened_by};
 
-use report::Written;
 use std::fs;
 use std::io::{ErrorKind, Read};
 use std::rt::Files;
@@ -99,16 +98,13 @@ fn read_vectors(rt: &impl Files, buf: &mut [u8]) -> Found
 // Runs the card and writes all that it prints, or says that it could not.
 fn run(rt: &HostRuntime, source: Source, file: &[u8], card: &[u8]) {
     let mut out = [0u8; play::ROOM];
-    match play::run_card(source, file, card, &mut out) {
-        Written::Bytes(n) => {
-            if rt.stdout().write_all(&out[..n]).is_err() {
-                let _ = rt
-                    .stderr()
-                    .write_all(b"runner: the result could not be written\n");
-            }
-        }
-        // Cannot be: the output has its room.
-        Written::TooSmall => {}
+    // It cannot be too small: the output has its room.
+    if let Ok(n) = play::run_card(source, file, card, &mut out)
+        && rt.stdout().write_all(&out[..n]).is_err()
+    {
+        let _ = rt
+            .stderr()
+            .write_all(b"runner: the result could not be written\n");
     }
 }
 
