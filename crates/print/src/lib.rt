@@ -1,7 +1,7 @@
 #![tactic(auto)]
 // A writer of text into bytes that the caller lends.
-// Not std's `write!`: its contract says what was written if it succeeds, and of no writer that it does succeed. `answer` in report promises the text
-// wherever there is room.
+// Not std's `write!`: its contract says what was written if it succeeds, and of no writer that it does succeed. `answer`
+// in report promises the text wherever there is room.
 ghost use Rattle.std.specs.Prelude.{◌≡◌, ◌++◌, ◌+◌, ◌≤◌, ◌<◌, length};
 ghost use Rattle.print.specs.Digits.{digits, decimal_places, decimal, hexadecimal};
 ghost use Rattle.print.specs.Inner.{Puts, Fits};

@@ -3,8 +3,9 @@
 ghost use Rattle.std.specs.Prelude.{◌≡◌, ◌++◌, ◌+◌, ◌≤◌, length};
 ghost use Rattle.print.specs.Digits.{decimal};
 ghost use Rattle.print.specs.Inner.{Puts, Fits};
-ghost use Rattle.report.specs.Result.{line_feed, count_lines, core_line, register_line, register_lines, core_text, core_texts, cores as cores_of, result_text, refusal_text};
-ghost use Rattle.report.specs.Answer.{answer, written, counts_room, result_room, refusal_room};
+ghost use Rattle.report.specs.Result.{line_feed, count_lines, core_line, register_line, register_lines, core_text};
+ghost use Rattle.report.specs.Result.{core_texts, cores as cores_of, result_text, refusal_text};
+ghost use Rattle.report.specs.Answer.{answer, written, result_room, refusal_room};
 
 use effect::state::{DELAY, MODE, PC, SR, STATE_WORDS};
 use print::Writer;
@@ -118,7 +119,8 @@ fn put_refusal(w: &mut Writer<'_>, number: u32, line: u32)
     w.put(b"\n");
 }
 
-// A run's counts, its cores with their registers, and `end`; and how many bytes that is. Words of states after the last whole state are not read.
+// Writes a run's counts, its cores with their registers, and `end`, and says how many bytes that is. Words of states after
+// the last whole state are not read.
 pub fn write_result(out: &mut [u8], counts: Counts, states: &[u32]) -> Result<usize, TooSmall>
     ensures answered { result ≡ answer (result_room (cores_of states.now)) (result_text counts states.now) out.old }
     ensures left { out.new ≡ written (result_room (cores_of states.now)) (result_text counts states.now) out.old }
