@@ -18,7 +18,8 @@ use Rattle.text.proofs.Stores.{sets_next, sets_front}
 use Rattle.memory.specs.Memory.{stored}
 use Rattle.memory.proofs.Laws.{length_stored}
 use Rattle.effect.specs.State.{state_words, pc_at, sr_at, esr_at, mode_at, picmr_at, running}
-use Rattle.card.specs.Card.{Job, Verdict, good, refused, image_fault, card_says, step, stop, first, word, every}
+use Rattle.card.specs.Card.{Job, Verdict, good, refused, image_fault, card_says, step, stop, first, word}
+use Rattle.std.specs.List.{list_all}
 use Rattle.card.specs.Answer.{words_from}
 use Rattle.card.proofs.Laws.{every_get_d}
 use Rattle.card.specs.Inner.{step_in}
@@ -114,12 +115,12 @@ and_both : (a b : Bool) → T a → T b → T (a && b)
 and_both true b t u = u
 and_both false b t u = absurd t
 
-every_append : (f : ℕ → Bool) (xs ys : List ℕ) → T (every f xs) → T (every f ys) → T (every f (xs ++ ys))
+every_append : (f : ℕ → Bool) (xs ys : List ℕ) → T (list_all f xs) → T (list_all f ys) → T (list_all f (xs ++ ys))
 every_append f [] ys t u = u
 every_append f (x ∷ xs) ys t u =
-    and_both (f x) (every f (xs ++ ys)) (and_left (f x) (every f xs) t) (every_append f xs ys (and_right (f x) (every f xs) t) u)
+    and_both (f x) (list_all f (xs ++ ys)) (and_left (f x) (list_all f xs) t) (every_append f xs ys (and_right (f x) (list_all f xs) t) u)
 
-pub every_entry : (f : ℕ → Bool) (s : List ℕ) (n : ℕ) → 0 < length s → T (every f s) → T (every f (entries s n))
+pub every_entry : (f : ℕ → Bool) (s : List ℕ) (n : ℕ) → 0 < length s → T (list_all f s) → T (list_all f (entries s n))
 unfolding entries
 every_entry f s zero h t = tt
 every_entry f s (suc n) h t =
