@@ -49,6 +49,15 @@ pub struct Refused {
     pub line: u32,
 }
 
+impl Cause {
+    // The refusal for this cause at a line.
+    pub fn at(self, line: u32) -> Refused
+        ensures { (result.cause ≡ self) × (result.line ≡ line) }
+    {
+        Refused { cause: self, line }
+    }
+}
+
 // A good card's job. The schedule's digits and the first w line are given by their places in the card.
 #[derive(Clone, Copy, Default)]
 pub struct Job {
@@ -119,10 +128,7 @@ fn start(card: &[u8]) -> Result<Progress, Refused>
     ensures { standing result ≡ start_of card.now }
 {
     if MAX_CARD < card.len() {
-        return Err(Refused {
-            cause: Cause::Form,
-            line: 0,
-        });
+        return Err(Cause::Form.at(0));
     }
     Ok(Progress {
         at: 0,
@@ -156,7 +162,7 @@ fn read_header(card: &[u8], from: usize) -> Result<Progress, Refused>
     let mut at = from;
     for i in 0..LINES {
         let line = i as u32 + 1;
-        let (value, next) = table::line_at(card, at, i, lines[CORES].value, lines[MEMORY].value).map_err(|cause| Refused { cause, line })?;
+        let (value, next) = table::line_at(card, at, i, lines[CORES].value, lines[MEMORY].value).map_err(|cause| cause.at(line))?;
         lines[i] = LineRead { value, at };
         at = next;
     }
@@ -183,16 +189,10 @@ fn last_lines(card: &[u8], p: Progress) -> Result<Job, Refused>
 {
     // A reader may hold any card. In one that is not too long every line's number fits.
     if MAX_CARD < card.len() {
-        return Err(Refused {
-            cause: Cause::Form,
-            line: 0,
-        });
+        return Err(Cause::Form.at(0));
     }
     if p.line != WORD_LINES {
-        return Err(Refused {
-            cause: Cause::Form,
-            line: p.line,
-        });
+        return Err(Cause::Form.at(p.line));
     }
     let mut job = p.job;
     job.image = p.at;
@@ -207,13 +207,10 @@ fn word_lines(card: &[u8], job: Job) -> Result<Job, Refused>
     let mut at = job.image;
     for i in 0..job.words {
         let line = WORD_LINES + i;
-        (_, at) = word_at(card, at).map_err(|cause| Refused { cause, line })?;
+        (_, at) = word_at(card, at).map_err(|cause| cause.at(line))?;
     }
     if at < card.len() {
-        return Err(Refused {
-            cause: Cause::Form,
-            line: WORD_LINES + job.words,
-        });
+        return Err(Cause::Form.at(WORD_LINES + job.words));
     }
     Ok(job)
 }

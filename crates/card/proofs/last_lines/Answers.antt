@@ -6,11 +6,11 @@ use Rattle.card.proofs.last_lines.Goals as goal
 
 pub returns-then-card-gt-MAX_CARD : goal.returns-then-card-gt-MAX_CARD
 unfolding last_lines
-returns-then-card-gt-MAX_CARD c = simp (lt-leb _ max_card c.if-card-gt-MAX_CARD.true)
+returns-then-card-gt-MAX_CARD c = simp (c.at.ensures.0, c.at.ensures.1, lt-leb _ max_card c.if-card-gt-MAX_CARD.true)
 
 pub returns-then-p-ne-WORD_LINES : goal.returns-then-p-ne-WORD_LINES
 unfolding last_lines
-returns-then-p-ne-WORD_LINES c = simp (le-leb _ max_card c.if-card-gt-MAX_CARD.false, ne_eqb _ _ c.if-p-ne-WORD_LINES.true)
+returns-then-p-ne-WORD_LINES c = simp (c.at-then-p-ne-WORD_LINES.ensures.0, c.at-then-p-ne-WORD_LINES.ensures.1, le-leb _ max_card c.if-card-gt-MAX_CARD.false, ne_eqb _ _ c.if-p-ne-WORD_LINES.true)
 
 pub returns : goal.returns
 unfolding last_lines

@@ -41,7 +41,7 @@ returns-then-at-card c =
     let a = c.args in
     let l = c.loop-i in
     let all : l.i ≡ a.job.words = omega arith in
-    rw all at (sym (words_over a.job (a.job.words - l.i) (header_lines + 1 + l.i) a.card.now l.at (omega arith) c.if-at-card.true) ∙ l.invariant.same)
+    rw (c.at.ensures.0, c.at.ensures.1) (rw all at (sym (words_over a.job (a.job.words - l.i) (header_lines + 1 + l.i) a.card.now l.at (omega arith) c.if-at-card.true) ∙ l.invariant.same))
 
 pub returns : goal.returns
 unfolding word_lines_of
