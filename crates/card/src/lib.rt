@@ -162,7 +162,13 @@ fn read_header(card: &[u8], from: usize) -> Result<Progress, Refused>
     let mut at = from;
     for i in 0..LINES {
         let line = i as u32 + 1;
-        let (value, next) = table::line_at(card, at, i, lines[CORES].value, lines[MEMORY].value).map_err(|cause| cause.at(line))?;
+        let (value, next) = table::line_at(
+            card,
+            at,
+            i,
+            lines[CORES].value,
+            lines[MEMORY].value,
+        ).map_err(|cause| cause.at(line))?;
         lines[i] = LineRead { value, at };
         at = next;
     }

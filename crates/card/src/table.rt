@@ -125,7 +125,13 @@ fn rule_of(meaning: Meaning, cores: u32, memory: u32) -> Rule
 }
 
 // The value on the header's line i, which stands at a place, and the place of the next line.
-pub fn line_at(card: &[u8], at: usize, i: usize, cores: u32, memory: u32) -> Result<(u32, usize), Cause>
+pub fn line_at(
+    card: &[u8],
+    at: usize,
+    i: usize,
+    cores: u32,
+    memory: u32,
+) -> Result<(u32, usize), Cause>
     requires { i < header_lines }
     ensures { (step_in card.now result ≡ first (get_or header i no_row).key (text_means (rule_of (get_or header i no_row).meaning cores memory)) (lines (drop at card.now))) × (Ahead card.now at result) }
 {

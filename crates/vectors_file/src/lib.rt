@@ -1,6 +1,6 @@
 #![tactic(auto)]
 // What the file named `vectors` says, line by line.
-ghost use Rattle.std.specs.Prelude.{◌≡◌, ◌<◌, drop, get_or};
+ghost use Rattle.std.specs.Prelude.{◌≡◌, ◌<◌, drop, map, get_or};
 ghost use Rattle.text.specs.Ascii.{ascii};
 ghost use Rattle.text.specs.Lines.{lines};
 ghost use Rattle.card.specs.Card.{first, whole};
@@ -42,7 +42,7 @@ const ADDRESS: Rule = Rule::Hexadecimal(Limits {
 // refused, and not passed over.
 #[tactic(auto, unfolding(crate::specs::File::vectors_say))]
 pub fn read(source: Source<'_>) -> Result<[u32; COUNT], Refused>
-    ensures { told result ≡ vectors_say (file_of source) }
+    ensures { told result ≡ vectors_say (file_of source.entry) }
 {
     match source {
         Source::Bytes(file) => read_file(file),
@@ -90,7 +90,7 @@ fn address_at(file: &[u8], at: usize, i: usize) -> Result<(u32, usize), Cause>
 // The key at a place in the list.
 fn key_at(i: usize) -> &'static [u8]
     requires { i < vector_count }
-    ensures { result.now ≡ ascii (get_or keys i "") }
+    ensures { result.now ≡ get_or (map ascii keys) i (ascii "") }
 {
     KEYS[i]
 }
