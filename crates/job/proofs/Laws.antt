@@ -13,7 +13,7 @@ use borrow.Rule.Slice.PartMut.{put_mid}
 use lib.Seq.{sets, sets-eq, drop-drop, length-take-le, set-append_left}
 use Rattle.std.proofs.lemmas.List.{get_or-map}
 use Rattle.std.proofs.lemmas.List.Folds.{list_all-append}
-use Rattle.bits.proofs.Tests.{and_both, and_left, and_right}
+use Rattle.bits.proofs.Tests.{and_both}
 use Rattle.text.specs.Ascii.{ascii}
 use Rattle.text.specs.Digits.{digit}
 use Rattle.text.specs.Lines.{Line, lines}
@@ -113,7 +113,7 @@ unfolding entries
 every_entry f s zero h t = tt
 every_entry f s (suc n) h t =
     let v : ℕ = get_or s (n % length s) 0 in
-    rw (list_all-append f (entries s n) (v ∷ [])) (and_both (list_all f (entries s n)) (f v && true) (every_entry f s n h t) (and_both (f v) true (every_get_d f s (n % length s) (mod-lt n h) t) tt))
+    rw (list_all-append f (entries s n) (v ∷ [])) (and_both (list_all f (entries s n)) (list_all f (v ∷ [])) (every_entry f s n h t) (and_both (f v) true (every_get_d f s (n % length s) (mod-lt n h) t) tt))
 
 -- the digit that a step takes
 pub digit_at : (card : List ℕ) (from n i : ℕ) → 0 < n → from + n ≤ length card
