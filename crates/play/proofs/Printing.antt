@@ -32,8 +32,8 @@ use Rattle.job.specs.Answer.{ReadJob}
 use Rattle.job.proofs.Laws.{right_image, image_laid, length_memory}
 use Rattle.report.specs.Answer.{answer, written, result_room}
 use Rattle.report.specs.Result.{result_text, refusal_text, cores}
-use Rattle.report.specs.declared.Written.{Written}
-use Rattle.report.specs.declared.Written.TheVariants.{Bytes, TooSmall}
+use Rattle.std.specs.Prelude.{Result, Ok, Err, IfOk}
+use Rattle.report.specs.declared.TooSmall.{TooSmall}
 use Rattle.report.proofs.Room.{too_small}
 use Rattle.vector_list.specs.Rules.{vectors_fit}
 use Rattle.vectors_file.specs.File.{File, vectors_say}
@@ -43,26 +43,26 @@ use Rattle.vectors_file.specs.declared.Outcome.{Outcome}
 use Rattle.vectors_file.specs.declared.Outcome.TheVariants as outcome
 use Rattle.vectors_file.proofs.Laws.{good_fits}
 use Rattle.play.specs.Output.{run_text, job_text, verdict_text, card_text, output_of, output}
-use Rattle.play.specs.Answer.{output_room, Among, Printed}
+use Rattle.play.specs.Answer.{output_room, Printed}
 use Rattle.play.specs.Inner.{Ready}
 
 -- ---- the answer
 
-pub no_room : (text out : List ℕ) → length out < output_room → Printed text out out TooSmall
+pub no_room : (text out : List ℕ) → length out < output_room → Printed text out out (Err (record {}))
 no_room text out h = let e = too_small output_room text out h in record { says = e.0; left = e.1; among = tt }
 
-module _ (room : ℕ) (text out out' : List ℕ) (r : Written) (h : output_room ≤ length out) (g : room ≤ output_room) where
+module _ (room : ℕ) (text out out' : List ℕ) (r : Result ℕ TooSmall) (h : output_room ≤ length out) (g : room ≤ output_room) where
   -- a text that was written is among the bytes, since it did not make them more
   pub printed : r ≡ answer room text out → out' ≡ written room text out → length out' ≡ length out → Printed text out out' r
   unfolding answer written
   printed e w l =
       let a : ltb (length out) room ≡ false = le-ltb (length out) room (omega arith) in
       let b : ltb (length out) output_room ≡ false = le-ltb (length out) output_room h in
-      let e' : r ≡ Bytes (length text) = rw a at e in
+      let e' : r ≡ Ok (length text) = rw a at e in
       let w' : out' ≡ text ++ drop (length text) out = rw a at w in
       let n : length out ≡ length text + (length out - length text) =
       sym l ∙ ap length w' ∙ length-append text (drop (length text) out) ∙ ap (λ (k : ℕ). length text + k) (length-drop (length text) out) in
-      record { says = rw b e'; left = rw b w'; among = subst (Among (length out)) (sym e') (let k : length text ≤ length out = omega arith in k) }
+      record { says = rw b e'; left = rw b w'; among = subst (λ (q : Result ℕ TooSmall). IfOk q (λ k. k ≤ length out)) (sym e') (let k : length text ≤ length out = omega arith in k) }
 
 -- ---- a run that is not refused
 
@@ -113,7 +113,7 @@ module _ {card image image' : List ℕ} {r : Reading} (l : length image ≡ imag
           laid_out = ap (take j.memory) (a ∙ image_laid image good_says) ∙ take_sets image (memory_of (job_at card j)) (omega arith) j.memory n;
         }
 
-pub printed_as : {text text' out out' : List ℕ} {r : Written} → text ≡ text' → Printed text out out' r → Printed text' out out' r
+pub printed_as : {text text' out out' : List ℕ} {r : Result ℕ TooSmall} → text ≡ text' → Printed text out out' r → Printed text' out out' r
 printed_as {out = out} {out' = out'} {r = r} e p = subst (λ (t : List ℕ). Printed t out out' r) e p
 
 -- ---- a file of vectors that was read

@@ -14,7 +14,7 @@ ghost use Rattle.play.specs.Inner.{Ready};
 use card::{Cause, Job, Reading};
 use effect::state;
 use engine::answer::Answer;
-use report::Written;
+use report::TooSmall;
 use vectors_file::{Outcome, Source};
 
 const CORES: usize = card::table::MAX_CORES as usize;
@@ -32,7 +32,7 @@ const STEPS: usize = card::table::MAX_STEPS as usize;
 // No part of a card's memory is read-only.
 const NO_LIMIT: u32 = 0;
 
-fn print_refusal(out: &mut [u8], cause: Cause, line: u32) -> Written
+fn print_refusal(out: &mut [u8], cause: Cause, line: u32) -> Result<usize, TooSmall>
     requires { output_room ≤ length out.old }
     ensures { Printed (refusal_text (refusal cause) line) out.old out.new result }
 {
@@ -49,7 +49,7 @@ fn print_run(
     vectors: &[u32],
     cache: &mut [u64],
     out: &mut [u8],
-) -> Written
+) -> Result<usize, TooSmall>
     requires accepted { fast_refusal (lent memory.old states.old schedule.now levels.now 0 vectors.now) cache.old ≡ 0 }
     requires output_room_in_bounds { output_room ≤ length out.old }
     ensures { Printed (run_text (lent memory.old states.old schedule.now levels.now 0 vectors.now) cache.old) out.old out.new result }
@@ -57,12 +57,12 @@ fn print_run(
     match engine::fast::fast_run(memory, states, schedule, levels, NO_LIMIT, vectors, cache) {
         Answer::Ran(counts) => report::write_result(out, counts, states),
         // Cannot be: what a good card asks for is accepted.
-        Answer::Refused(_) => Written::TooSmall,
+        Answer::Refused(_) => Err(TooSmall),
     }
 }
 
 // A good card's job, with its memory laid out in the image: all lines are low, and the run starts from an empty decode cache.
-fn print_job(vectors: &[u32], card: &[u8], job: Job, image: &mut [u8], out: &mut [u8]) -> Written
+fn print_job(vectors: &[u32], card: &[u8], job: Job, image: &mut [u8], out: &mut [u8]) -> Result<usize, TooSmall>
     requires ready { Ready card.now job image.old }
     requires output_room_in_bounds { output_room ≤ length out.old }
     requires vectors_listed { T (vectors_fit vectors.now) }
@@ -90,7 +90,7 @@ fn print_job(vectors: &[u32], card: &[u8], job: Job, image: &mut [u8], out: &mut
 }
 
 // A card, once the list of vectors is good.
-fn print_card(vectors: &[u32], card: &[u8], out: &mut [u8]) -> Written
+fn print_card(vectors: &[u32], card: &[u8], out: &mut [u8]) -> Result<usize, TooSmall>
     requires output_room_in_bounds { output_room ≤ length out.old }
     requires vectors_listed { T (vectors_fit vectors.now) }
     ensures { Printed (card_text card.now vectors.now) out.old out.new result }
@@ -103,11 +103,11 @@ fn print_card(vectors: &[u32], card: &[u8], out: &mut [u8]) -> Written
 }
 
 // What the runner prints for a file of vectors and a card; or that the bytes lent are too few for the longest output, and nothing is written.
-pub fn run_card(source: Source, file: &[u8], card: &[u8], out: &mut [u8]) -> Written
+pub fn run_card(source: Source, file: &[u8], card: &[u8], out: &mut [u8]) -> Result<usize, TooSmall>
     ensures { Printed (output (file_of source file.now) card.now) out.old out.new result }
 {
     if out.len() < ROOM {
-        return Written::TooSmall;
+        return Err(TooSmall);
     }
     let reading = vectors_file::read(source, file);
     let outcome = reading.outcome;
