@@ -1,4 +1,4 @@
-use mathlib.Core.Path.{◌≡◌, sym, ◌∙◌}
+use mathlib.Core.Path.{◌≡◌, sym}
 use native.Mathlib.Omega.{arith}
 use lib.ListN.{length}
 use borrow.Author.Tests.{ne_eqb}
@@ -15,7 +15,7 @@ returns-then-i-lt-COUNT c =
     let seven : length list ≡ vector_count = omega arith in
     let first = rw seven at r.ensures.0 in
     let n : r.result ≡ vector_count → ⊥ = λ e. omega arith in
-    c.bad.ensures ∙ simp (distinct_first, sym first, ne_eqb _ _ n)
+    simp (c.at.ensures.0, c.at.ensures.1, distinct_first, sym first, ne_eqb _ _ n)
 
 pub returns : goal.returns
 unfolding distinct
@@ -25,4 +25,4 @@ returns c =
     let seven : length list ≡ vector_count = omega arith in
     let first = rw seven at r.ensures.0 in
     let e : r.result ≡ vector_count = omega arith in
-    c.good.ensures ∙ simp (distinct_first, sym first, e)
+    simp (distinct_first, sym first, e)
