@@ -7,8 +7,7 @@ use Rattle.refusal.specs.Lent.{Lent, Left}
 use Rattle.refusal.specs.Refusal.{fast_refusal}
 use Rattle.refusal.proofs.Passes.{fast_then_plain}
 use Rattle.steps.specs.Plain.{Plain, plain_of}
-use Rattle.engine.specs.Answer.{number, counts_of, PlainAnswer, FastAnswer}
-use Rattle.engine.specs.declared.answer.Answer.{Answer}
+use Rattle.engine.specs.Answer.{Answer, number, counts_of, PlainAnswer, FastAnswer}
 
 -- the answer p of a plain run, which leaves x, and f of a fast run, which leaves y: "both end with the same memory, the same sheets, the same
 -- count of instructions executed and the same count of exceptions raised"

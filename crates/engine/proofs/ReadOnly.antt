@@ -10,8 +10,7 @@ use Rattle.refusal.specs.Refusal.{plain_refusal, fast_refusal}
 use Rattle.steps.specs.Plain.{Plain, scheduled_by}
 use Rattle.linked.specs.Run.{start, plain_run}
 use Rattle.linked.proofs.Agree.{from_keeps}
-use Rattle.engine.specs.Answer.{unless_refused, PlainAnswer, FastAnswer}
-use Rattle.engine.specs.declared.answer.Answer.{Answer}
+use Rattle.engine.specs.Answer.{Answer, unless_refused, PlainAnswer, FastAnswer}
 
 module _ (l : Lent) (x : Left) (r : Answer) (j : ℕ) (h : j < l.limit) where
   kept : (refusal : ℕ) → get_or (unless_refused refusal (plain_run l) (start l)).memory j 0 ≡ get_or l.memory j 0

@@ -1,26 +1,29 @@
 -- A run's answer and what it leaves of all that is lent, for every input: document 01, "Turned back", and demand 3.
-use Rattle.std.specs.Prelude.{List, [], ◌≡◌, ℕ, ◌+◌, ◌*◌, ◌^◌, eqb, if◌then◌else◌}
+use Rattle.std.specs.Prelude.{List, [], ◌≡◌, ℕ, ◌+◌, ◌*◌, ◌^◌, eqb, if◌then◌else◌, Result, Ok, Err}
 use Rattle.refusal.specs.Lent.{Lent, Left, board_of}
 use Rattle.refusal.specs.Refusal.{max_schedule, plain_refusal, fast_refusal, refusal_number}
+use Rattle.refusal.specs.declared.cause.Refusal.{Refusal}
 use Rattle.steps.specs.Counts.{no_counts, AtMost}
 use Rattle.steps.specs.Plain.{plain_of}
 use Rattle.steps.specs.History.{entries_from}
 use Rattle.steps.specs.declared.counts.Counts.{Counts}
 use Rattle.linked.specs.Run.{start, plain_run, history}
-use Rattle.engine.specs.declared.answer.Answer.{Answer}
-use Rattle.engine.specs.declared.answer.Answer.TheVariants.{Ran, Refused}
 
 -- ---- the answer
 
+-- what was counted, or why the run was refused
+abbrev pub Answer : Type 0
+Answer = Result Counts Refusal
+
 -- the refusal's number; 0 is none
 abbrev pub number : Answer → ℕ
-number (Ran n) = 0
-number (Refused cause) = refusal_number cause
+number (Ok n) = 0
+number (Err cause) = refusal_number cause
 
 -- the three counts; "counts are then 0"
 abbrev pub counts_of : Answer → Counts
-counts_of (Ran n) = n
-counts_of (Refused cause) = no_counts
+counts_of (Ok n) = n
+counts_of (Err cause) = no_counts
 
 -- the answer as one number for a C host: bits 63-60 the refusal's number, 59-40 reused, 39-20 raised, 19-0 executed
 abbrev pub packed_answer : Answer → ℕ

@@ -4,15 +4,11 @@ ghost use Rattle.refusal.specs.Refusal.{max_schedule};
 ghost use Rattle.steps.specs.Counts.{AtMost};
 ghost use Rattle.engine.specs.Answer.{counts_of, packed_answer};
 
-use refusal::cause;
 use refusal::cause::Refusal;
 use steps::counts::Counts;
 
-#[derive(Clone, Copy)]
-pub enum Answer {
-    Ran(Counts),
-    Refused(Refusal),
-}
+// What was counted, or why the run was refused.
+pub type Answer = Result<Counts, Refusal>;
 
 // The answer as one number, for a C host: bits 63-60 the refusal's number, 59-40 reused, 39-20 raised, 19-0 executed.
 pub fn pack(answer: Answer) -> u64
@@ -20,9 +16,9 @@ pub fn pack(answer: Answer) -> u64
     ensures { result ≡ packed_answer answer }
 {
     match answer {
-        Answer::Ran(n) => n.reused as u64 * 0x100_0000_0000
+        Ok(n) => n.reused as u64 * 0x100_0000_0000
             + n.raised as u64 * 0x10_0000
             + n.executed as u64,
-        Answer::Refused(cause) => cause::number(cause) * 0x1000_0000_0000_0000,
+        Err(cause) => u64::from(cause) * 0x1000_0000_0000_0000,
     }
 }

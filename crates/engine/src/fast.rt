@@ -3,7 +3,6 @@ ghost use Rattle.refusal.specs.Lent.{lent, left};
 ghost use Rattle.engine.specs.Answer.{FastAnswer};
 
 use crate::answer::Answer;
-use refusal::cause::Verdict;
 
 // The fast run: answers its counts, or the first rule that is broken, and then nothing lent is written.
 pub fn fast_run(
@@ -17,11 +16,6 @@ pub fn fast_run(
 ) -> Answer
     ensures { FastAnswer (lent memory.old states.old schedule.now levels.now limit vectors.now) cache.old (left memory.new states.new) cache.new result }
 {
-    let verdict = refusal::check_fast(memory, states, schedule, levels, limit, vectors, cache);
-    match verdict {
-        Verdict::Accepted => Answer::Ran(linked::run(
-            memory, states, schedule, levels, limit, vectors, cache,
-        )),
-        Verdict::Refused(cause) => Answer::Refused(cause),
-    }
+    refusal::check_fast(memory, states, schedule, levels, limit, vectors, cache)?;
+    Ok(linked::run(memory, states, schedule, levels, limit, vectors, cache))
 }

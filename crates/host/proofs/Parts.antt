@@ -4,8 +4,7 @@ use Prim.Native.Nat.{ℕ, ◌+◌, ◌*◌, ◌/◌, ◌%◌, ◌^◌, ◌<◌}
 use native.Mathlib.Omega.{arith}
 use Rattle.refusal.specs.Refusal.{max_schedule}
 use Rattle.steps.specs.Counts.{AtMost}
-use Rattle.engine.specs.Answer.{number, counts_of, packed_answer}
-use Rattle.engine.specs.declared.answer.Answer.{Answer}
+use Rattle.engine.specs.Answer.{Answer, number, counts_of, packed_answer}
 use Rattle.host.specs.Interface.{Packs}
 
 -- any number above three that are below 2^20

@@ -4,8 +4,7 @@ use Rattle.isa.specs.InstructionSet.{decode}
 use Rattle.codec.specs.Encoding.{encode, number}
 use Rattle.refusal.specs.Lent.{Lent, Left}
 use Rattle.steps.specs.declared.counts.Counts.{Counts}
-use Rattle.engine.specs.Answer.{number as refusal_in, counts_of, packed_answer, PlainAnswer, FastAnswer}
-use Rattle.engine.specs.declared.answer.Answer.{Answer}
+use Rattle.engine.specs.Answer.{Answer, number as refusal_in, counts_of, packed_answer, PlainAnswer, FastAnswer}
 
 -- ---- words and entries
 

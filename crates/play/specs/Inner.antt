@@ -6,7 +6,7 @@ use Rattle.card.specs.declared.Job.{Job}
 use Rattle.job.specs.Job.{memory_of}
 use Rattle.report.specs.Result.{result_text, refusal_text}
 use Rattle.play.specs.declared.Ran.{Ran}
-use Rattle.play.specs.declared.Refused.{Refused}
+use Rattle.card.specs.declared.Refused.{Refused}
 
 -- a card is good, says this job, and its memory is laid out at the start of the image
 pub record Ready (card : List ℕ) (j : Job) (image : List ℕ) : Type 0 where

@@ -10,12 +10,11 @@ ghost use Rattle.play.specs.Output.{job_text, output};
 ghost use Rattle.play.specs.Answer.{Printed};
 ghost use Rattle.play.specs.Inner.{Ready, text_of};
 
-use card::{Cause, Job, Reading};
+use card::{Job, Refused};
 use effect::state;
-use engine::answer::Answer;
 use report::TooSmall;
 use steps::counts::Counts;
-use vectors_file::{Outcome, Source};
+use vectors_file::Source;
 
 const CORES: usize = card::table::MAX_CORES as usize;
 
@@ -37,13 +36,6 @@ const NO_LIMIT: u32 = 0;
 struct Ran<'a> {
     counts: Counts,
     states: &'a [u32],
-}
-
-// Why a file or a card is refused, and at which line.
-#[derive(Clone, Copy)]
-struct Refused {
-    cause: Cause,
-    line: u32,
 }
 
 // The run of a good card's job, with its memory laid out in the image: all lines are low, and the run starts from an empty
@@ -77,7 +69,7 @@ fn run_job<'a>(
         vectors,
         &mut cache[..memory / 4],
     );
-    let Answer::Ran(counts) = answer else {
+    let Ok(counts) = answer else {
         // What a good card asks for is accepted.
         unreachable!();
     };
@@ -86,41 +78,30 @@ fn run_job<'a>(
 
 // The run of a card, after its file of vectors.
 fn run<'a>(
-    source: Source,
-    file: &[u8],
+    source: Source<'_>,
     card: &[u8],
     states: &'a mut [u32; STATES],
 ) -> Result<Ran<'a>, Refused>
-    ensures text { text_of result ≡ output (file_of source file.now) card.now }
+    ensures text { text_of result ≡ output (file_of source.entry) card.now }
     ensures few_cores { IfOk result (λ ran. cores_of ran.states.now ≤ max_cores) }
 {
-    let reading = vectors_file::read(source, file);
-    if let Outcome::Bad(cause, line) = reading.outcome {
-        return Err(Refused { cause, line });
-    }
+    let list = vectors_file::read(source)?;
     let mut image = [0u8; job::IMAGE];
-    match job::read_job(card, &mut image) {
-        Reading::Good(job) => Ok(run_job(&reading.list, card, job, &mut image, states)),
-        Reading::Bad(cause, line) => Err(Refused { cause, line }),
-    }
+    let job = job::read_job(card, &mut image)?;
+    Ok(run_job(&list, card, job, &mut image, states))
 }
 
 // What the runner prints for a file of vectors and a card, and how many bytes that is; or that the bytes lent are too few
 // for the longest output, and nothing is written.
-pub fn run_card(
-    source: Source,
-    file: &[u8],
-    card: &[u8],
-    out: &mut [u8],
-) -> Result<usize, TooSmall>
-    ensures { Printed (output (file_of source file.now) card.now) out.old out.new result }
+pub fn run_card(source: Source<'_>, card: &[u8], out: &mut [u8]) -> Result<usize, TooSmall>
+    ensures { Printed (output (file_of source.entry) card.now) out.old out.new result }
 {
     if out.len() < ROOM {
         return Err(TooSmall);
     }
     let mut states = [0u32; STATES];
-    match run(source, file, card, &mut states) {
+    match run(source, card, &mut states) {
         Ok(ran) => report::write_result(out, ran.counts, ran.states),
-        Err(refused) => report::write_refusal(out, card::number(refused.cause), refused.line),
+        Err(refused) => report::write_refusal(out, u32::from(refused.cause), refused.line),
     }
 }

@@ -1,12 +1,12 @@
 -- What is not refused, fact by fact; and back. Assumes nothing.
-use mathlib.Core.Bool.{true, ◌&&◌}
+use mathlib.Core.Bool.{◌&&◌}
 use mathlib.Core.List.{List}
 use mathlib.Core.Path.{◌≡◌, sym, ◌∙◌}
 use Prim.Native.Nat.{ℕ, ◌/◌, ◌%◌, ◌≤◌}
 use native.Mathlib.Omega.{arith}
 use lib.Dec.{T, eqb, leb, leb→le}
 use lib.ListN.{length}
-use Rattle.bits.proofs.Tests.{and_left, and_right, T_of}
+use Rattle.bits.proofs.Tests.{and_left, and_right}
 use Rattle.bits.proofs.Cases.{by_equality}
 use Rattle.vector_list.specs.Rules.{vectors_fit}
 use Rattle.effect.specs.State.{state_words}
@@ -101,6 +101,3 @@ unfolding states_fit
 cores_fit n t =
     let u = and_right (eqb (n % state_words) 0) (leb 1 (n / state_words) && leb (n / state_words) 4) t in
     (leb→le 1 (n / state_words) (and_left (leb 1 (n / state_words)) (leb (n / state_words) 4) u), leb→le (n / state_words) 4 (and_right (leb 1 (n / state_words)) (leb (n / state_words) 4) u))
-
-pub few_cores : (n : ℕ) → states_fit n ≡ true → (1 ≤ n / state_words) × (n / state_words ≤ 4)
-few_cores n e = cores_fit n (T_of (states_fit n) e)

@@ -1,15 +1,17 @@
 -- Tests over numbers and lists, as a loop makes them, and the first of a list of rules that is broken. Assumes nothing.
-use mathlib.Core.Bool.{Bool, true, false, ◌&&◌}
+use mathlib.Core.Bool.{Bool, true, false, ◌&&◌, and_assoc}
 use mathlib.Core.List.{List, [], ◌∷◌, ◌++◌}
 use mathlib.Core.Path.{◌≡◌, refl, sym, ◌∙◌}
-use Prim.Native.Nat.{ℕ, zero, suc, ◌+◌, ◌*◌, ◌<◌, ◌≤◌}
+use Prim.Native.Nat.{ℕ, zero, suc, max, ◌+◌, ◌*◌, ◌<◌, ◌≤◌}
 use native.Mathlib.Numerals.{add-one}
 use native.Mathlib.Omega.{arith}
 use lib.Dec.{T, ltb, ltb→lt}
-use borrow.Author.Tests.{ltb-true, ltb-false}
 use lib.ListN.{length, get_or, take, drop, drop_of_length-le}
 use lib.Seq.{drop-cons}
-use Rattle.std.specs.Prelude.{if◌then◌else◌}
+use Rattle.std.specs.Prelude.{if◌then◌else◌, Option, fold}
+use Rattle.std.specs.Option.{MatchOption}
+use Rattle.std.specs.List.{reduce}
+use Rattle.std.proofs.lemmas.Bool.Decides.{nat_tests}
 use Rattle.bits.proofs.Tests.{and_left, and_right, and_both, of_T}
 use Rattle.effect.specs.State.{state_words, pc_at, delay_at, target_at, sr_at, epcr_at, esr_at, link_at, link_address_at, mode_at, picmr_at, all, rules}
 use Rattle.effect.specs.Board.{Board}
@@ -17,7 +19,6 @@ use Rattle.commit.specs.Commit.{word_at}
 use Rattle.commit.proofs.Own.{mid_word}
 use Rattle.commit.specs.Inner.{own_word}
 use Rattle.refusal.specs.Refusal.{Rule, every_from, first_broken}
-use Rattle.refusal.specs.Inner.{greatest}
 
 pub and_true : (b : Bool) → b && true ≡ b
 and_true true = refl
@@ -69,37 +70,20 @@ module _ (f : ℕ → ℕ → Bool) where
 
 -- ---- the greatest element of a list
 
-module _ (m : ℕ) (l : List ℕ) (i : ℕ) where
-  pub greatest_next : i < length l
-      → greatest m (drop i l) ≡ greatest (if ltb m (get_or l i 0) then get_or l i 0 else m) (drop (i + 1) l)
-  unfolding greatest
-  greatest_next h = rw (add-one, drop-cons l i 0 h)
+max_below : (n a b : ℕ) → ltb (max a b) n ≡ (ltb a n && ltb b n)
+max_below n a b = grind (arith, nat_tests)
 
-  pub greatest_end : length l ≤ i → greatest m (drop i l) ≡ m
-  unfolding greatest
-  greatest_end h = rw (drop_of_length-le l h)
+fold_below : (n m : ℕ) (l : List ℕ) (i : ℕ) → ltb (fold max m l) n ≡ (ltb m n && every_from (λ i x. ltb x n) i l)
+unfolding every_from
+fold_below n m [] i = sym (and_true (ltb m n))
+fold_below n m (x ∷ l) i = fold_below n (max m x) l (i + 1) ∙ rw (max_below n m x) (and_assoc (ltb m n) (ltb x n) (every_from (λ i x. ltb x n) (i + 1) l))
 
--- of two numbers, the smaller is below n if the greater is
-both_below : (n a b : ℕ) (p q : Bool) → ltb a n ≡ p → ltb b n ≡ q → a ≤ b → (t : Bool) → q && t ≡ p && (q && t)
-both_below n a b true q d e h t = refl
-both_below n a b false true d e h t = let u : b < n = ltb-true b n e in let w : n ≤ a = ltb-false a n d in absurd (omega arith)
-both_below n a b false false d e h t = refl
-
-below_both : (n a b : ℕ) (p q : Bool) → ltb a n ≡ p → ltb b n ≡ q → b ≤ a → (t : Bool) → p && t ≡ p && (q && t)
-below_both n a b true true d e h t = refl
-below_both n a b true false d e h t = let u : a < n = ltb-true a n d in let w : n ≤ b = ltb-false b n e in absurd (omega arith)
-below_both n a b false q d e h t = refl
-
-greater_below : (n m x : ℕ) (t : Bool) (b : Bool) → ltb m x ≡ b → ltb (if b then x else m) n && t ≡ ltb m n && (ltb x n && t)
-greater_below n m x t true p = both_below n m x (ltb m n) (ltb x n) refl refl (let u : m < x = ltb-true m x p in omega arith) t
-greater_below n m x t false p = below_both n m x (ltb m n) (ltb x n) refl refl (ltb-false m x p) t
-
--- the greatest is below n if every element is
-pub greatest_below : (n m : ℕ) (l : List ℕ) (i : ℕ) → ltb (greatest m l) n ≡ (ltb m n && every_from (λ i x. ltb x n) i l)
-unfolding greatest every_from
-greatest_below n m [] i = sym (and_true (ltb m n))
-greatest_below n m (x ∷ l) i =
-    greatest_below n (if ltb m x then x else m) l (i + 1) ∙ greater_below n m x (every_from (λ i x. ltb x n) (i + 1) l) (ltb m x) refl
+-- it is below n, if there is one, where every element is; P is what is known of the test's answer
+pub greatest_below : (n : ℕ) (l : List ℕ) (greatest : Option ℕ) (r : Bool) (P : ℕ → Type 0) → greatest ≡ reduce max l → ((x : ℕ) → P x → r ≡ ltb x n) →
+    MatchOption greatest (r ≡ true) P → r ≡ every_from (λ i x. ltb x n) 0 l
+unfolding every_from
+greatest_below n [] greatest r P e f h = rw e at h
+greatest_below n (x ∷ l) greatest r P e f h = f (fold max x l) (rw e at h) ∙ fold_below n x l 1
 
 -- ---- rules, in their order
 

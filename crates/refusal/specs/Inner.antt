@@ -1,11 +1,6 @@
 -- What the parts of the tests promise one another. Nothing here is document 01's: Refusal has that.
-use Rattle.std.specs.Prelude.{Bool, ◌||◌, not, List, [], ◌∷◌, ℕ, eqb, ltb, if◌then◌else◌}
+use Rattle.std.specs.Prelude.{Bool, ◌||◌, not, ℕ, eqb}
 
 -- one of the rules on a state
 abbrev pub unset_is_zero : ℕ → ℕ → Bool
 unset_is_zero flag value = not (eqb flag 0) || eqb value 0
-
--- the greatest of m and a list's elements
-unfoldable pub greatest : ℕ → List ℕ → ℕ
-greatest m [] = m
-greatest m (x ∷ l) = greatest (if ltb m x then x else m) l

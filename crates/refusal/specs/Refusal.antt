@@ -1,6 +1,6 @@
 -- What a run refuses (the paper's "turned back"): document 01, "What is lent" and "Turned back"; document 02, notes 4 to 6 and 8. The rules on a list of
 -- vectors stand in vector_list/specs/Rules.
-use Rattle.std.specs.Prelude.{Bool, true, ◌&&◌, ◌||◌, List, [], ◌∷◌, ◌++◌, ℕ, ◌+◌, ◌/◌, ◌%◌, eqb, leb, ltb, length, if◌then◌else◌}
+use Rattle.std.specs.Prelude.{Bool, true, ◌&&◌, ◌||◌, List, [], ◌∷◌, ◌++◌, ℕ, ◌+◌, ◌/◌, ◌%◌, eqb, leb, ltb, length, if◌then◌else◌, Result, Ok, Err}
 use Rattle.bits.specs.Every.{every_below}
 use Rattle.vector_list.specs.Rules.{vectors_fit}
 use Rattle.effect.specs.State.{state_words}
@@ -11,8 +11,6 @@ use Rattle.lawful.specs.Accepted.{accepted}
 use Rattle.refusal.specs.Lent.{Lent, board_of}
 use Rattle.refusal.specs.declared.cause.Refusal.{Refusal}
 use Rattle.refusal.specs.declared.cause.Refusal.TheVariants.{MemoryLength, StatesLength, StateRule, ScheduleLength, NoSuchCore, LevelsLength, ReadOnlyLimit, VectorList, CacheLength, CacheEntry}
-use Rattle.refusal.specs.declared.cause.Verdict.{Verdict}
-use Rattle.refusal.specs.declared.cause.Verdict.TheVariants.{Accepted, Refused}
 
 -- f passes at every element of a list and its place, counted from i
 unfoldable pub every_from : (ℕ → ℕ → Bool) → ℕ → List ℕ → Bool
@@ -112,7 +110,7 @@ refusal_number VectorList = 13
 refusal_number CacheLength = 6
 refusal_number CacheEntry = 7
 
--- a verdict's number among the refusals; 0 is none
-abbrev pub verdict_number : Verdict → ℕ
-verdict_number Accepted = 0
-verdict_number (Refused cause) = refusal_number cause
+-- the number of what the tests find; 0 is none
+abbrev pub verdict_number : Result (Unit {0}) Refusal → ℕ
+verdict_number (Ok _) = 0
+verdict_number (Err cause) = refusal_number cause

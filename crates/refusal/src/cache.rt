@@ -4,26 +4,22 @@ ghost use Rattle.effect.specs.Board.{Board};
 ghost use Rattle.refusal.specs.Refusal.{entry_right, entries_right};
 
 // An empty entry costs no decoding.
+#[tactic(auto, unfolding(decode_cache::specs::Cache::form_at))]
 fn entry_right(memory: &[u8], k: usize, entry: u64) -> bool
     requires { 4 * k + 4 ≤ length memory.now }
     ensures { (board : Board) → result ≡ entry_right board memory.now k entry }
 {
-    if entry == 0 {
-        return true;
-    }
-    entry == codec::decoder::decode(memory::load_word(memory, 4 * k))
+    entry == 0 || entry == codec::decoder::decode(memory::load_word(memory, 4 * k))
 }
 
 pub fn entries_right(memory: &[u8], cache: &[u64]) -> bool
     requires { length cache.now ≡ length memory.now / 4 }
     ensures { (board : Board) → result ≡ entries_right board memory.now cache.now }
 {
-    let mut k = 0;
-    while k < cache.len() {
-        if !entry_right(memory, k, cache[k]) {
+    for (k, &entry) in cache.iter().enumerate() {
+        if !entry_right(memory, k, entry) {
             return false;
         }
-        k += 1;
     }
     true
 }

@@ -3,7 +3,7 @@ ghost use Rattle.std.specs.Prelude.{◌≡◌, ◌<◌};
 ghost use Rattle.refusal.specs.Refusal.{refusal_number};
 
 // In the order of the tests.
-#[derive(Clone, Copy)]
+#[derive(Clone, Copy, PartialEq, Eq, Debug)]
 pub enum Refusal {
     MemoryLength,
     StatesLength,
@@ -17,27 +17,22 @@ pub enum Refusal {
     CacheEntry,
 }
 
-// The tests' verdict on what is lent.
-#[derive(Clone, Copy)]
-pub enum Verdict {
-    Accepted,
-    Refused(Refusal),
-}
-
 // The documents' number of a refusal; four bits hold every one.
-pub fn number(cause: Refusal) -> u64
-    ensures { (result ≡ refusal_number cause) × (result < 16) }
-{
-    match cause {
-        Refusal::MemoryLength => 1,
-        Refusal::StatesLength => 2,
-        Refusal::StateRule => 3,
-        Refusal::ScheduleLength => 4,
-        Refusal::NoSuchCore => 5,
-        Refusal::LevelsLength => 11,
-        Refusal::ReadOnlyLimit => 12,
-        Refusal::VectorList => 13,
-        Refusal::CacheLength => 6,
-        Refusal::CacheEntry => 7,
+impl From<Refusal> for u64 {
+    ghost from_gives = { λ cause n. (n ≡ refusal_number cause) × (n < 16) };
+
+    fn from(cause: Refusal) -> u64 {
+        match cause {
+            Refusal::MemoryLength => 1,
+            Refusal::StatesLength => 2,
+            Refusal::StateRule => 3,
+            Refusal::ScheduleLength => 4,
+            Refusal::NoSuchCore => 5,
+            Refusal::LevelsLength => 11,
+            Refusal::ReadOnlyLimit => 12,
+            Refusal::VectorList => 13,
+            Refusal::CacheLength => 6,
+            Refusal::CacheEntry => 7,
+        }
     }
 }

@@ -5,7 +5,7 @@ ghost use Rattle.effect.specs.Board.{Board};
 ghost use Rattle.refusal.specs.Lent.{lent};
 ghost use Rattle.refusal.specs.Refusal.{memory_fits, states_fit, limit_fits, cache_rules, first_broken, plain_refusal, fast_refusal, verdict_number};
 
-use crate::cause::{Refusal, Verdict};
+use crate::cause::Refusal;
 use effect::state;
 
 pub mod cache;
@@ -13,41 +13,31 @@ pub mod cause;
 pub mod schedule;
 pub mod states;
 
+#[tactic(auto, unfolding(crate::specs::Refusal::memory_fits))]
 fn memory_fits(len: usize) -> bool
     ensures { result ≡ memory_fits len }
 {
-    if len < 4096 {
-        return false;
-    }
-    if 0x10_0000 < len {
-        return false;
-    }
-    len % 4 == 0
+    4096 <= len && len <= 0x10_0000 && len.is_multiple_of(4)
 }
 
+#[tactic(auto, unfolding(crate::specs::Refusal::states_fit))]
 fn states_fit(len: usize) -> bool
     ensures { result ≡ states_fit len }
 {
-    if len % state::STATE_WORDS != 0 {
-        return false;
-    }
-    if len / state::STATE_WORDS < 1 {
-        return false;
-    }
-    len / state::STATE_WORDS <= 4
+    let cores = len / state::STATE_WORDS;
+    len.is_multiple_of(state::STATE_WORDS) && 1 <= cores && cores <= 4
 }
 
 // All of memory may be read-only.
+#[tactic(auto, unfolding(crate::specs::Refusal::limit_fits))]
 fn limit_fits(len: usize, limit: u32) -> bool
     ensures { result ≡ limit_fits len limit }
 {
-    if limit % 4 != 0 {
-        return false;
-    }
-    limit as usize <= len
+    limit.is_multiple_of(4) && limit as usize <= len
 }
 
 // Refusals 1 to 5 and 11 to 13, which both runs have.
+#[tactic(auto, unfolding(crate::specs::Refusal::plain_refusal, crate::specs::Refusal::first_broken, crate::specs::Refusal::schedule_fits, crate::specs::Refusal::levels_fit))]
 pub fn check(
     memory: &[u8],
     states: &[u32],
@@ -55,47 +45,48 @@ pub fn check(
     levels: &[u32],
     limit: u32,
     vectors: &[u32],
-) -> Verdict
+) -> Result<(), Refusal>
     ensures { verdict_number result ≡ plain_refusal (lent memory.now states.now schedule.now levels.now limit vectors.now) }
 {
     if !memory_fits(memory.len()) {
-        return Verdict::Refused(Refusal::MemoryLength);
+        return Err(Refusal::MemoryLength);
     }
     if !states_fit(states.len()) {
-        return Verdict::Refused(Refusal::StatesLength);
+        return Err(Refusal::StatesLength);
     }
     if !states::states_accepted(states) {
-        return Verdict::Refused(Refusal::StateRule);
+        return Err(Refusal::StateRule);
     }
     if 0x1_0000 < schedule.len() {
-        return Verdict::Refused(Refusal::ScheduleLength);
+        return Err(Refusal::ScheduleLength);
     }
     if !schedule::names_cores(schedule, states.len() / state::STATE_WORDS) {
-        return Verdict::Refused(Refusal::NoSuchCore);
+        return Err(Refusal::NoSuchCore);
     }
     if levels.len() != schedule.len() {
-        return Verdict::Refused(Refusal::LevelsLength);
+        return Err(Refusal::LevelsLength);
     }
     if !limit_fits(memory.len(), limit) {
-        return Verdict::Refused(Refusal::ReadOnlyLimit);
+        return Err(Refusal::ReadOnlyLimit);
     }
     if !vector_list::fits(vectors) {
-        return Verdict::Refused(Refusal::VectorList);
+        return Err(Refusal::VectorList);
     }
-    Verdict::Accepted
+    Ok(())
 }
 
 // Refusals 6 and 7, on the decode cache.
-fn check_cache(memory: &[u8], cache: &[u64]) -> Verdict
+#[tactic(auto, unfolding(crate::specs::Refusal::cache_fits, crate::specs::Refusal::first_broken))]
+fn check_cache(memory: &[u8], cache: &[u64]) -> Result<(), Refusal>
     ensures { (board : Board) → verdict_number result ≡ first_broken (cache_rules board memory.now cache.now) }
 {
     if cache.len() != memory.len() / 4 {
-        return Verdict::Refused(Refusal::CacheLength);
+        return Err(Refusal::CacheLength);
     }
     if !cache::entries_right(memory, cache) {
-        return Verdict::Refused(Refusal::CacheEntry);
+        return Err(Refusal::CacheEntry);
     }
-    Verdict::Accepted
+    Ok(())
 }
 
 // All of them.
@@ -107,12 +98,9 @@ pub fn check_fast(
     limit: u32,
     vectors: &[u32],
     cache: &[u64],
-) -> Verdict
+) -> Result<(), Refusal>
     ensures { verdict_number result ≡ fast_refusal (lent memory.now states.now schedule.now levels.now limit vectors.now) cache.now }
 {
-    let verdict = check(memory, states, schedule, levels, limit, vectors);
-    match verdict {
-        Verdict::Accepted => check_cache(memory, cache),
-        Verdict::Refused(cause) => Verdict::Refused(cause),
-    }
+    check(memory, states, schedule, levels, limit, vectors)?;
+    check_cache(memory, cache)
 }

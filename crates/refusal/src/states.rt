@@ -2,7 +2,6 @@
 ghost use Rattle.std.specs.Prelude.{◌≡◌, ℕ, ◌+◌, ◌*◌, ◌≤◌, length, drop};
 ghost use Rattle.effect.specs.State.{state_words, is_mode, all, rules};
 ghost use Rattle.effect.specs.Board.{Board};
-ghost use Rattle.commit.specs.Commit.{core_count};
 ghost use Rattle.commit.specs.Inner.{own_word};
 ghost use Rattle.lawful.specs.Accepted.{accepted};
 ghost use Rattle.refusal.specs.Refusal.{states_obey};
@@ -14,26 +13,14 @@ use effect::state;
 fn unset_is_zero(flag: u32, value: u32) -> bool
     ensures { result ≡ unset_is_zero flag value }
 {
-    if flag == 0 {
-        return value == 0;
-    }
-    true
+    flag != 0 || value == 0
 }
 
 // A core is halted or running; or linked, if it is not core 0.
 fn is_mode(core: usize, mode: u32) -> bool
     ensures { result ≡ is_mode core mode }
 {
-    if mode == state::HALTED {
-        return true;
-    }
-    if mode == state::RUNNING {
-        return true;
-    }
-    if mode == state::LINKED {
-        return 0 < core;
-    }
-    false
+    mode == state::HALTED || mode == state::RUNNING || mode == state::LINKED && 0 < core
 }
 
 // The rules on SR, ESR and PICMR, the last three.
@@ -41,15 +28,9 @@ fn status_obeys(own: &[u32]) -> bool
     requires { state_words ≤ length own.now }
     ensures { (board : Board) (core : ℕ) → result ≡ all (drop 10 (rules board core (own_word own.now))) }
 {
-    let sr = own[state::SR];
-    if arith::keep_allowed(sr) != sr {
-        return false;
-    }
-    let esr = own[state::ESR];
-    if arith::keep_allowed(esr) != esr {
-        return false;
-    }
-    own[state::PICMR] % 4 == 3
+    arith::keep_allowed(own[state::SR]) == own[state::SR]
+        && arith::keep_allowed(own[state::ESR]) == own[state::ESR]
+        && own[state::PICMR] % 4 == 3
 }
 
 // These, and the rules on addresses.
@@ -57,24 +38,13 @@ fn addresses_obey(own: &[u32]) -> bool
     requires { state_words ≤ length own.now }
     ensures { (board : Board) (core : ℕ) → result ≡ all (drop 4 (rules board core (own_word own.now))) }
 {
-    if own[state::PC] % 4 != 0 {
-        return false;
-    }
-    if own[state::TARGET] % 4 != 0 {
-        return false;
-    }
-    if own[state::EPCR] % 4 != 0 {
-        return false;
-    }
-    if own[state::LINK_ADDRESS] % 4 != 0 {
-        return false;
-    }
-    if unset_is_zero(own[state::DELAY], own[state::TARGET]) {
-        if unset_is_zero(own[state::LINK], own[state::LINK_ADDRESS]) {
-            return status_obeys(own);
-        }
-    }
-    false
+    own[state::PC].is_multiple_of(4)
+        && own[state::TARGET].is_multiple_of(4)
+        && own[state::EPCR].is_multiple_of(4)
+        && own[state::LINK_ADDRESS].is_multiple_of(4)
+        && unset_is_zero(own[state::DELAY], own[state::TARGET])
+        && unset_is_zero(own[state::LINK], own[state::LINK_ADDRESS])
+        && status_obeys(own)
 }
 
 // All the rules on a state.
@@ -82,18 +52,11 @@ fn state_obeys(own: &[u32], core: usize) -> bool
     requires { state_words ≤ length own.now }
     ensures { (board : Board) → result ≡ all (rules board core (own_word own.now)) }
 {
-    if 1 < own[state::DELAY] {
-        return false;
-    }
-    if 1 < own[state::LINK] {
-        return false;
-    }
-    if is_mode(core, own[state::MODE]) {
-        if own[0] == 0 {
-            return addresses_obey(own);
-        }
-    }
-    false
+    own[state::DELAY] <= 1
+        && own[state::LINK] <= 1
+        && is_mode(core, own[state::MODE])
+        && own[0] == 0
+        && addresses_obey(own)
 }
 
 fn state_accepted(states: &[u32], core: usize) -> bool
@@ -106,16 +69,12 @@ fn state_accepted(states: &[u32], core: usize) -> bool
 }
 
 pub fn states_accepted(states: &[u32]) -> bool
-    requires { core_count states.now ≤ 4 }
     ensures { (board : Board) → result ≡ states_obey board states.now }
 {
-    let cores = states.len() / state::STATE_WORDS;
-    let mut core = 0;
-    while core < cores {
+    for core in 0..states.len() / state::STATE_WORDS {
         if !state_accepted(states, core) {
             return false;
         }
-        core += 1;
     }
     true
 }

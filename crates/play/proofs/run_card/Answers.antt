@@ -19,5 +19,5 @@ returns-in-Ok c =
 pub returns-in-Err : goal.returns-in-Err
 returns-in-Err c =
     let w = c.write_refusal in
-    printed_as (ap (λ (n : ℕ). refusal_text n c.in-Err.refused.line) c.number.ensures ∙ c.in-Err.ensures.text)
+    printed_as (ap (λ (n : ℕ). refusal_text n c.in-Err.refused.line) c.from.ensures ∙ c.in-Err.ensures.text)
     (printed refusal_room _ _ _ _ (omega arith) (omega arith) w.ensures.answered w.ensures.left w.auto.out)

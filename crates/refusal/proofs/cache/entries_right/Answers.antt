@@ -1,4 +1,4 @@
-use mathlib.Core.Path.{refl, sym, ◌∙◌}
+use Rattle.std.proofs.Common.{refl, sym, ◌∙◌}
 use Rattle.refusal.specs.Refusal.{entry_right, entries_right}
 use Rattle.refusal.proofs.Tests.{from_stop, from_on, from_end}
 use Rattle.refusal.proofs.cache.entries_right.Goals as goal
