@@ -17,10 +17,10 @@ use Rattle.text.specs.Digits.{digit}
 use Rattle.text.specs.Numbers.{within, decimal, hexadecimal}
 use Rattle.text.specs.Lines.{Line, lines}
 use Rattle.text.specs.Inner.{line_end, after_lines}
-use Rattle.text.specs.declared.Parsed.{Parsed}
-use Rattle.text.specs.declared.Parsed.TheVariants.{Number, Nothing}
+use Rattle.std.specs.Prelude.{Option, Some, None}
 use Rattle.text.proofs.Laws.{text_at}
-use Rattle.card.specs.Card.{Field, value, fault, tested, limited, status, schedule, word, every, digits_below, Step, step, stop, first, onward, line, word_lines, no_line_left, content, card_says, Left, Verdict, good, refused, Job, form_fault, value_fault, max_card, max_word, max_cores, min_memory, max_memory, max_steps, max_digits}
+use Rattle.card.specs.Card.{Field, value, fault, tested, limited, status, schedule, word, digits_below, Step, step, stop, first, onward, line, word_lines, no_line_left, content, card_says, Left, Verdict, good, refused, Job, form_fault, value_fault, max_card, max_word, max_cores, min_memory, max_memory, max_steps, max_digits}
+use Rattle.std.specs.List.{list_all}
 use Rattle.card.specs.Answer.{header_lines, before_schedule, placed, answered, more, words_from, job, job_at, Sound, Bounds}
 use Rattle.card.specs.Inner.{left}
 use Rattle.card.specs.declared.Job as code
@@ -45,16 +45,16 @@ tested_if : (f : ℕ → Bool) (v : ℕ) {w : ℕ} (b : Bool) → f v ≡ b → 
 tested_if f v {w} true p e = let s : v ≡ w = cc in let t : T (f v) = T_of (f v) p in rw s at t
 tested_if f v false p e = no_value e
 
-tested_value : (f : ℕ → Bool) (p : Parsed) {w : ℕ} → tested f p ≡ value w → T (f w)
-tested_value f (Number v) e = tested_if f v (f v) refl e
-tested_value f Nothing e = no_value e
+tested_value : (f : ℕ → Bool) (p : Option ℕ) {w : ℕ} → tested f p ≡ value w → T (f w)
+tested_value f (Some v) e = tested_if f v (f v) refl e
+tested_value f None e = no_value e
 
 pub record Within (low high m v : ℕ) : Type 0 where
   pub above : low ≤ v
   pub below : v ≤ high
   pub multiple : v % m ≡ 0
 
-pub limited_value : (low high m : ℕ) (p : Parsed) {w : ℕ} → limited low high m p ≡ value w → Within low high m w
+pub limited_value : (low high m : ℕ) (p : Option ℕ) {w : ℕ} → limited low high m p ≡ value w → Within low high m w
 limited_value low high m p {w} e =
     let t = tested_value (λ v. within low high v && eqb (v % m) 0) p e in
     let b = eqb (w % m) 0 in
@@ -66,7 +66,7 @@ limited_value low high m p {w} e =
     }
 
 -- a line with a number: how it is written, and its limits
-by_number : {P : Type 0} (key : String) (parse : List ℕ → Parsed) (low high m : ℕ) (card : List ℕ) (i : ℕ) (k : ℕ → Left → Verdict Job) {j : Job}
+by_number : {P : Type 0} (key : String) (parse : List ℕ → Option ℕ) (low high m : ℕ) (card : List ℕ) (i : ℕ) (k : ℕ → Left → Verdict Job) {j : Job}
     → line key (λ t. limited low high m (parse t)) (left card (after_lines card i) (suc i)) k ≡ good j
     → ((v : ℕ) → Within low high m v → k v (left card (line_end card (after_lines card i) + 1) (suc i + 1)) ≡ good j → P) → P
 by_number key parse low high m card i k e go =
@@ -81,7 +81,7 @@ by_status key card i k e go =
     let text = hexadecimal (text_at (ascii key) card (after_lines card i)) in
     by_line key status card i k e (λ v s _ _ e. go v (eqb-true _ _ (of_T _ (tested_value (λ v. eqb (allowed v) v) text s))) e)
 
-digits_below_lem : (n : ℕ) (t : List ℕ) → digits_below n t ≡ every (λ d. ltb d n) (map digit t)
+digits_below_lem : (n : ℕ) (t : List ℕ) → digits_below n t ≡ list_all (λ d. ltb d n) (map digit t)
 digits_below_lem n [] = refl
 digits_below_lem n (b ∷ t) = ap (λ r. ltb (digit b) n && r) (digits_below_lem n t)
 
@@ -89,7 +89,7 @@ digits_below_lem n (b ∷ t) = ap (λ r. ltb (digit b) n && r) (digits_below_lem
 pub record Digits (n : ℕ) (t s : List ℕ) : Type 0 where
   some : 1 ≤ length s
   pub few : length s ≤ max_digits
-  named : T (every (λ d. ltb d n) s)
+  named : T (list_all (λ d. ltb d n) s)
   pub said : map digit t ≡ s
 
 schedule_tests : (n : ℕ) (t s : List ℕ) (a b c d : Bool) → leb 1 (length t) ≡ a → leb (length t) max_digits ≡ b → digits_below n t ≡ d

@@ -16,8 +16,7 @@ use Rattle.text.specs.Ascii.{ascii}
 use Rattle.text.specs.Digits.{digit}
 use Rattle.text.specs.Numbers.{within, number, needless_zero, decimal, hexadecimal}
 use Rattle.text.specs.Lines.{Line, ended, cut, onto, lines, begins, Entry, entry, missing, entry_of}
-use Rattle.text.specs.declared.Parsed.{Parsed}
-use Rattle.text.specs.declared.Parsed.TheVariants.{Nothing}
+use Rattle.std.specs.Prelude.{Option, None}
 use Rattle.text.proofs.Laws.{begins_length}
 use Rattle.card.specs.Card.{Field, value, fault, tested, limited, cores, memory, entry_address, status, steps, schedule, word_count, word, Step, step, stop, followed, read, first, onward, line, word_lines, no_line_left, content, card_says, Left, Verdict, good, refused, Job, form_fault, max_card, min_memory, max_memory, max_digits}
 use Rattle.card.specs.Earlier.{earlier_content, earlier_says, put_in, with_sr, renumbered}
@@ -186,7 +185,7 @@ line_good key f n ls k e go = step_good n k (first (ascii key) f ls) e go
 
 -- ---- each form's length
 
-tested_short : (f : ℕ → Bool) (n : ℕ) (t : List ℕ) (p : Parsed) (b : Bool) {v : ℕ} → (b ≡ true → length t ≤ n) → tested f (if b then p else Nothing) ≡ value v → length t ≤ n
+tested_short : (f : ℕ → Bool) (n : ℕ) (t : List ℕ) (p : Option ℕ) (b : Bool) {v : ℕ} → (b ≡ true → length t ≤ n) → tested f (if b then p else None) ≡ value v → length t ≤ n
 tested_short f n t p true h e = h refl
 tested_short f n t p false h e = no_value e
 
@@ -206,10 +205,10 @@ schedule_short n t v e =
     omega arith
 
 -- a line's number is not above its limit
-first_limit : (low high m : ℕ) (key : List ℕ) (parse : List ℕ → Parsed) (ls : List Line) {v : ℕ} {rs : List Line} → first key (λ t. limited low high m (parse t)) ls ≡ step v rs → v ≤ high
+first_limit : (low high m : ℕ) (key : List ℕ) (parse : List ℕ → Option ℕ) (ls : List Line) {v : ℕ} {rs : List Line} → first key (λ t. limited low high m (parse t)) ls ≡ step v rs → v ≤ high
 first_limit low high m key parse ls e = of_entry (entry_of key ls) e
   where
-    of_field : (ls : List Line) {v : ℕ} {rs : List Line} (p : Parsed) (x : Field ℕ) → limited low high m p ≡ x → followed ls x ≡ step v rs → v ≤ high
+    of_field : (ls : List Line) {v : ℕ} {rs : List Line} (p : Option ℕ) (x : Field ℕ) → limited low high m p ≡ x → followed ls x ≡ step v rs → v ≤ high
     of_field ls {v} p (value w) q e = let i : w ≡ v = cc in let h = (limited_value low high m p q).below in omega arith
     of_field ls p (fault f) q e = no_step e
 

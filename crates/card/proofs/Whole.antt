@@ -13,11 +13,12 @@ use Rattle.text.specs.Inner.{line_end, after_lines}
 use Rattle.text.proofs.Laws.{text_at, Stands, nowhere, there, entry_stands}
 use Rattle.card.specs.Card.{Field, value, fault, cores, memory, entry_address, status, steps, schedule, word_count, word, Step, step, stop, followed, read, first, onward, line, word_lines, no_line_left, content, card_says, Left, Verdict, good, Job, form_fault, max_card}
 use Rattle.card.specs.Answer.{told, and_then, header_lines, before_schedule, placed, answered, job}
-use Rattle.card.specs.Inner.{counted, left, standing, start_of, job_of, rows_from, header_from, header_at, close, word_lines_of, put_image, last_lines}
+use Rattle.card.specs.Inner.{counted, left, standing, start_of, rows_from, header_from, header_at, close, word_lines_of, put_image, last_lines}
 use Rattle.card.specs.declared.Job as code
 use Rattle.card.specs.declared.Progress.{Progress}
 use Rattle.card.specs.declared.Reader.{Reader}
-use Rattle.card.specs.declared.Reading.{Reading}
+use Rattle.card.specs.declared.Refused.{Refused}
+use Rattle.std.specs.Prelude.{Result}
 
 -- what the line at a place says: a refusal, or what its text means, and the next line stands after its line feed
 module _ {A : Type 0} (P : Step A → Type 0) (key : List ℕ) (f : List ℕ → Field A) (s : List ℕ) (at : ℕ) (stopped : (n : ℕ) → P (stop n))
@@ -96,7 +97,17 @@ module _ (card : List ℕ) where
   module _ (fits : leb (length card) max_card ≡ true) where
     -- after the header: the values of its lines, and n w lines to come
     abbrev so_far : ℕ → ℕ → ℕ → ℕ → ℕ → List ℕ → ℕ → code.Job
-    so_far a b c r d s n = job_of (a ∷ b ∷ c ∷ r ∷ d ∷ length s ∷ n ∷ []) (after_lines card before_schedule + length (ascii "schedule="))
+    so_far a b c r d s n = record {
+      cores = a;
+      memory = b;
+      entry = c;
+      sr = r;
+      steps = d;
+      schedule = after_lines card before_schedule + length (ascii "schedule=");
+      digits = length s;
+      words = n;
+      image = 0;
+    }
 
     last_both : (a b c r d : ℕ) (s : List ℕ) (n : ℕ)
         → answered card (word_lines n (left card (after_lines card header_lines) (header_lines + 1)) (λ ws l. no_line_left l.rest l.next (good (job a b c r d s ws))))
@@ -135,7 +146,7 @@ Starts s r = (r.card ≡ s) × (standing r.reached ≡ start_of s.now)
 abbrev pub Moves : Reader → Reader → Type 0
 Moves r t = (t.card ≡ r.card) × (standing t.reached ≡ move r.card.now (standing r.reached))
 
-abbrev pub Ends : Reader → Reading → Type 0
+abbrev pub Ends : Reader → Result code.Job Refused → Type 0
 Ends r t = told t ≡ end r.card.now (standing r.reached)
 
 -- a reader of the card s that has reached v
@@ -151,5 +162,5 @@ module _ (s : Bor (List ℕ)) where
     pub moved : (t : Reader) → Moves r t → At s (move s.now v) t
     moved t e = record { reads = e.0 ∙ a.reads; stands = e.1 ∙ rw (a.reads, a.stands) }
 
-    pub ended : (t : Reading) → Ends r t → told t ≡ end s.now v
+    pub ended : (t : Result code.Job Refused) → Ends r t → told t ≡ end s.now v
     ended t e = e ∙ rw (a.reads, a.stands)

@@ -1,16 +1,16 @@
 -- What the reader's answers stand for: they hold places in the card, and a cause for each refusal.
-use Rattle.std.specs.Prelude.{ℕ, zero, suc, ◌+◌, ◌/◌, ◌%◌, ◌≤◌, ◌≡◌, List, [], ◌∷◌, map, length, take, drop, T, ltb}
+use Rattle.std.specs.Prelude.{ℕ, zero, suc, ◌+◌, ◌/◌, ◌%◌, ◌≤◌, ◌≡◌, List, [], ◌∷◌, map, length, take, drop, T, ltb, Result, Ok, Err}
 use Rattle.arith.specs.Status.{allowed}
 use Rattle.text.specs.Ascii.{ascii}
 use Rattle.text.specs.Digits.{digit}
 use Rattle.text.specs.Lines.{Line, lines}
 use Rattle.text.specs.Inner.{after_lines}
-use Rattle.card.specs.Card.{Step, step, stop, first, word, every, Job, Verdict, good, refused, image_fault, form_fault, value_fault, repeat_fault, max_cores, min_memory, max_memory, max_steps, max_digits}
+use Rattle.card.specs.Card.{Step, step, stop, first, word, Job, Verdict, good, refused, image_fault, form_fault, value_fault, repeat_fault, max_cores, min_memory, max_memory, max_steps, max_digits}
+use Rattle.std.specs.List.{list_all}
 use Rattle.card.specs.declared.Cause.{Cause}
 use Rattle.card.specs.declared.Cause.TheVariants.{Image, Form, Limit, Repeat}
 use Rattle.card.specs.declared.Job as code
-use Rattle.card.specs.declared.Reading.{Reading}
-use Rattle.card.specs.declared.Reading.TheVariants.{Good, Bad}
+use Rattle.card.specs.declared.Refused.{Refused}
 
 -- the number of each cause
 abbrev pub refusal : Cause → ℕ
@@ -20,9 +20,9 @@ refusal Limit = value_fault
 refusal Repeat = repeat_fault
 
 -- an answer with its cause's number
-abbrev pub told : Reading → Verdict code.Job
-told (Good j) = good j
-told (Bad c n) = refused (refusal c) n
+abbrev pub told : Result code.Job Refused → Verdict code.Job
+told (Ok j) = good j
+told (Err r) = refused (refusal r.cause) r.line
 
 -- what comes of something good; a refusal stays
 abbrev pub and_then : {A B : Type 0} → Verdict A → (A → Verdict B) → Verdict B
@@ -88,7 +88,7 @@ pub record Sound (j : Job) : Type 0 where
   pub steps_high : j.steps ≤ max_steps
   pub digits_low : 1 ≤ length j.schedule
   pub digits_high : length j.schedule ≤ max_digits
-  pub cores_named : T (every (λ d. ltb d j.cores) j.schedule)
+  pub cores_named : T (list_all (λ d. ltb d j.cores) j.schedule)
   pub words_high : length j.words ≤ j.memory / 4
 
 -- the same by its places, for those who run it: its digits stand in the card

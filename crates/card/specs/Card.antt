@@ -1,13 +1,12 @@
 -- What a run card says: document 01, "The run card", and refusals 1, 9 and 10 of "Turned back"; document 02, note 7, on the line sr. A card is its bytes.
-use Rattle.std.specs.Prelude.{ℕ, zero, suc, ◌+◌, ◌/◌, ◌%◌, Bool, true, ◌&&◌, List, [], ◌∷◌, map, length, eqb, ltb, leb, if◌then◌else◌}
+use Rattle.std.specs.Prelude.{ℕ, zero, suc, ◌+◌, ◌/◌, ◌%◌, Bool, ◌&&◌, List, [], ◌∷◌, map, length, Option, Some, None, eqb, ltb, leb, if◌then◌else◌}
+use Rattle.std.specs.List.{list_all}
 use Prim.Native.String.{String}
 use Rattle.arith.specs.Status.{allowed}
 use Rattle.text.specs.Ascii.{ascii}
 use Rattle.text.specs.Digits.{digit}
 use Rattle.text.specs.Numbers.{within, decimal, hexadecimal}
 use Rattle.text.specs.Lines.{Line, lines, Entry, entry, missing, entry_of}
-use Rattle.text.specs.declared.Parsed.{Parsed}
-use Rattle.text.specs.declared.Parsed.TheVariants.{Number, Nothing}
 
 -- 1: "memory or card image of wrong length (card: line 0)"
 abbrev pub image_fault : ℕ
@@ -53,12 +52,12 @@ pub data Field (A : Type 0) : Type 0 where
   fault : ℕ → Field A
 
 -- a number that f lets pass
-abbrev pub tested : (ℕ → Bool) → Parsed → Field ℕ
-tested f (Number v) = if f v then value v else fault value_fault
-tested f Nothing = fault form_fault
+abbrev pub tested : (ℕ → Bool) → Option ℕ → Field ℕ
+tested f (Some v) = if f v then value v else fault value_fault
+tested f None = fault form_fault
 
 -- a number from low to high that is a multiple of m
-abbrev pub limited : ℕ → ℕ → ℕ → Parsed → Field ℕ
+abbrev pub limited : ℕ → ℕ → ℕ → Option ℕ → Field ℕ
 limited low high m = tested (λ v. within low high v && eqb (v % m) 0)
 
 -- "cores 1–4"
@@ -82,13 +81,9 @@ status t = tested (λ v. eqb (allowed v) v) (hexadecimal t)
 abbrev pub steps : List ℕ → Field ℕ
 steps t = limited 0 max_steps 1 (decimal t)
 
-abbrev pub every : (ℕ → Bool) → List ℕ → Bool
-every f [] = true
-every f (b ∷ t) = f b && every f t
-
 -- every character is a digit below n
 abbrev pub digits_below : ℕ → List ℕ → Bool
-digits_below n = every (λ b. ltb (digit b) n)
+digits_below n = list_all (λ b. ltb (digit b) n)
 
 -- "schedule, 1–16 core digits"; "A schedule digit that names no core is a value fault; no digit, more than 16 or any other character is a form fault."
 abbrev pub schedule : ℕ → List ℕ → Field (List ℕ)

@@ -3,9 +3,10 @@ ghost use Rattle.std.specs.Prelude.{◌≡◌, ◌<◌, drop, get_or};
 ghost use Rattle.text.specs.Lines.{lines};
 ghost use Rattle.card.specs.Card.{first};
 ghost use Rattle.card.specs.Answer.{header_lines};
-ghost use Rattle.card.specs.Inner.{header, no_row, key_of, rule_of, text_means, step_in, Ahead};
+ghost use Rattle.card.specs.Inner.{header, no_row, Same, rule_of, text_means, step_in, Ahead};
 
-use crate::value::{Field, MAX_WORD, Rule};
+use crate::Cause;
+use crate::value::{Limits, MAX_WORD, Rule};
 
 pub const MAX_CORES: u32 = 4;
 
@@ -17,7 +18,7 @@ pub const MAX_STEPS: u32 = 16384;
 
 // A line's rule, or the line above on which it depends.
 #[derive(Clone, Copy)]
-pub enum Limits {
+pub enum Meaning {
     Fixed(Rule),
     // Each digit names a core.
     Cores,
@@ -25,17 +26,14 @@ pub enum Limits {
     Memory,
 }
 
-// A line of the header: its key, which is the first bytes of the array, and what may follow.
+// A line of the header: its key and what may follow.
 #[derive(Clone, Copy)]
 pub struct Row {
-    pub key: [u8; KEY],
-    pub length: usize,
-    pub limits: Limits,
+    pub key: &'static [u8],
+    pub meaning: Meaning,
 }
 
-// The room for a key, and the length of the schedule's, by which its digits are found.
-const KEY: usize = 9;
-
+// The length of the schedule's key, by which its digits are found.
 pub const SCHEDULE_KEY: usize = 9;
 
 pub const LINES: usize = 7;
@@ -55,73 +53,88 @@ pub const SCHEDULE: usize = 5;
 
 pub const WORDS: usize = 6;
 
-// The lines in their order. A number's limits: the lowest, the highest, and of what it is a multiple.
+// The lines in their order.
 const HEADER: [Row; LINES] = [
     Row {
-        key: *b"cores=   ",
-        length: 6,
-        limits: Limits::Fixed(Rule::Decimal(1, MAX_CORES, 1)),
+        key: b"cores=",
+        meaning: Meaning::Fixed(Rule::Decimal(Limits {
+            low: 1,
+            high: MAX_CORES,
+            multiple: 1,
+        })),
     },
     Row {
-        key: *b"memory=  ",
-        length: 7,
-        limits: Limits::Fixed(Rule::Decimal(MIN_MEMORY, MAX_MEMORY, 4)),
+        key: b"memory=",
+        meaning: Meaning::Fixed(Rule::Decimal(Limits {
+            low: MIN_MEMORY,
+            high: MAX_MEMORY,
+            multiple: 4,
+        })),
     },
     Row {
-        key: *b"entry=   ",
-        length: 6,
-        limits: Limits::Fixed(Rule::Hexadecimal(0, MAX_WORD, 4)),
+        key: b"entry=",
+        meaning: Meaning::Fixed(Rule::Hexadecimal(Limits {
+            low: 0,
+            high: MAX_WORD,
+            multiple: 4,
+        })),
     },
     Row {
-        key: *b"sr=      ",
-        length: 3,
-        limits: Limits::Fixed(Rule::Status),
+        key: b"sr=",
+        meaning: Meaning::Fixed(Rule::Status),
     },
     Row {
-        key: *b"steps=   ",
-        length: 6,
-        limits: Limits::Fixed(Rule::Decimal(0, MAX_STEPS, 1)),
+        key: b"steps=",
+        meaning: Meaning::Fixed(Rule::Decimal(Limits {
+            low: 0,
+            high: MAX_STEPS,
+            multiple: 1,
+        })),
     },
     Row {
-        key: *b"schedule=",
-        length: SCHEDULE_KEY,
-        limits: Limits::Cores,
+        key: b"schedule=",
+        meaning: Meaning::Cores,
     },
     Row {
-        key: *b"words=   ",
-        length: 6,
-        limits: Limits::Memory,
+        key: b"words=",
+        meaning: Meaning::Memory,
     },
 ];
 
 // The row at a place of the table.
 fn row_of(i: usize) -> Row
     requires { i < header_lines }
-    ensures { result ≡ get_or header i no_row }
+    ensures { Same result (get_or header i no_row) }
 {
     HEADER[i]
 }
 
 // A line's rule, by the values of the lines above.
-fn rule_of(limits: Limits, cores: u32, memory: u32) -> Rule
-    ensures { result ≡ rule_of limits cores memory }
+fn rule_of(meaning: Meaning, cores: u32, memory: u32) -> Rule
+    ensures { result ≡ rule_of meaning cores memory }
 {
-    match limits {
-        Limits::Fixed(rule) => rule,
-        Limits::Cores => Rule::Digits(cores),
-        Limits::Memory => Rule::Decimal(0, memory / 4, 1),
+    match meaning {
+        Meaning::Fixed(rule) => rule,
+        Meaning::Cores => Rule::Digits(cores),
+        Meaning::Memory => Rule::Decimal(Limits {
+            low: 0,
+            high: memory / 4,
+            multiple: 1,
+        }),
     }
 }
 
-// The value on the header's line i, which stands at a place.
-pub fn line_at(card: &[u8], at: usize, i: usize, cores: u32, memory: u32) -> Field
+// The value on the header's line i, which stands at a place, and the place of the next line.
+pub fn line_at(
+    card: &[u8],
+    at: usize,
+    i: usize,
+    cores: u32,
+    memory: u32,
+) -> Result<(u32, usize), Cause>
     requires { i < header_lines }
-    ensures { (step_in card.now result ≡ first (key_of (get_or header i no_row)) (text_means (rule_of (get_or header i no_row).limits cores memory)) (lines (drop at card.now))) × (Ahead card.now at result) }
+    ensures { (step_in card.now result ≡ first (get_or header i no_row).key (text_means (rule_of (get_or header i no_row).meaning cores memory)) (lines (drop at card.now))) × (Ahead card.now at result) }
 {
     let row = row_of(i);
-    let key = row.key;
-    let n = row.length;
-    let limits = row.limits;
-    let rule = rule_of(limits, cores, memory);
-    crate::value::value_at(card, at, &key[..n], rule)
+    crate::value::value_at(card, at, row.key, rule_of(row.meaning, cores, memory))
 }

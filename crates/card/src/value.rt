@@ -1,22 +1,30 @@
 // The value that a line has after its key: its form and its limits.
-ghost use Rattle.std.specs.Prelude.{◌≡◌, ◌<◌, eqb, drop};
+ghost use Rattle.std.specs.Prelude.{◌≡◌, ◌<◌, ◌&&◌, ◌==◌, Some, eqb, drop};
+ghost use Rattle.text.specs.Numbers.{within};
 ghost use Rattle.text.specs.Lines.{lines};
 ghost use Rattle.arith.specs.Status.{allowed};
 ghost use Rattle.card.specs.Card.{tested, limited as limitedOf, first, schedule, digits_below};
-ghost use Rattle.card.specs.Inner.{counted, text_means, Sensible, field_in, Next, step_in, Ahead};
+ghost use Rattle.card.specs.Inner.{counted, text_means, Sensible, field_in, step_in, Ahead};
 
 use crate::Cause;
-use text::{Found, Parsed};
 
 const MAX_DIGITS: usize = 16;
 
 pub const MAX_WORD: u32 = 0xffffffff;
 
-// What may follow a key. A number has the lowest value, the highest, and of what it is a multiple.
+// A number's limits: the lowest, the highest, and of what it is a multiple.
+#[derive(Clone, Copy)]
+pub struct Limits {
+    pub low: u32,
+    pub high: u32,
+    pub multiple: u32,
+}
+
+// What may follow a key.
 #[derive(Clone, Copy)]
 pub enum Rule {
-    Decimal(u32, u32, u32),
-    Hexadecimal(u32, u32, u32),
+    Decimal(Limits),
+    Hexadecimal(Limits),
     // Eight digits, of a word that SR may be.
     Status,
     // 1 to 16 digits, each below this number; the value is how many.
@@ -24,109 +32,72 @@ pub enum Rule {
 }
 
 // The rule of a w line.
-pub const WORD: Rule = Rule::Hexadecimal(0, MAX_WORD, 1);
+pub const WORD: Rule = Rule::Hexadecimal(Limits {
+    low: 0,
+    high: MAX_WORD,
+    multiple: 1,
+});
 
-// A line's value and the place of the next line.
-#[derive(Clone, Copy)]
-pub enum Field {
-    Value(u32, usize),
-    Fault(Cause),
-}
-
-// The value on the line at a place, if it has that key.
-pub fn value_at(card: &[u8], at: usize, key: &[u8], rule: Rule) -> Field
+// The value on the line at a place, if it has that key, and the place of the next line.
+pub fn value_at(card: &[u8], at: usize, key: &[u8], rule: Rule) -> Result<(u32, usize), Cause>
     requires { Sensible rule }
     ensures { (step_in card.now result ≡ first key.now (text_means rule) (lines (drop at card.now))) × (Ahead card.now at result) }
 {
-    match text::find_entry(card, at, key) {
-        Found::At(from, end) => {
-            let text = &card[from..end];
-            meant(text, rule, end + 1)
-        }
-        Found::Missing => Field::Fault(Cause::Form),
-    }
+    let found = text::find_entry(card, at, key).ok_or(Cause::Form)?;
+    let value = meant(&card[found.start..found.end], rule)?;
+    Ok((value, found.end + 1))
 }
 
-// What a text means by a rule. The place of the next line goes with the value.
-fn meant(text: &[u8], rule: Rule, next: usize) -> Field
+// What a text means by a rule.
+fn meant(text: &[u8], rule: Rule) -> Result<u32, Cause>
     requires { Sensible rule }
-    ensures { (field_in result ≡ text_means rule text.now) × (Next next result) }
+    ensures { field_in result ≡ text_means rule text.now }
 {
     match rule {
-        Rule::Decimal(low, high, m) => limited(text::decimal(text), low, high, m, next),
-        Rule::Hexadecimal(low, high, m) => limited(text::hexadecimal(text), low, high, m, next),
-        Rule::Status => status(text::hexadecimal(text), next),
-        Rule::Digits(cores) => digits(text, cores, next),
+        Rule::Decimal(limits) => limited(text::decimal(text).ok_or(Cause::Form)?, limits),
+        Rule::Hexadecimal(limits) => limited(text::hexadecimal(text).ok_or(Cause::Form)?, limits),
+        Rule::Status => status(text::hexadecimal(text).ok_or(Cause::Form)?),
+        Rule::Digits(cores) => digits(text, cores),
     }
 }
 
 // A number within limits.
-fn limited(v: Parsed, low: u32, high: u32, multiple: u32, next: usize) -> Field
-    requires { 0 < multiple }
-    ensures { (field_in result ≡ limitedOf low high multiple v) × (Next next result) }
+fn limited(n: u32, limits: Limits) -> Result<u32, Cause>
+    requires { 0 < limits.multiple }
+    ensures { field_in result ≡ limitedOf limits.low limits.high limits.multiple (Some n) }
 {
-    match v {
-        Parsed::Number(n) => {
-            if n < low {
-                return Field::Fault(Cause::Limit);
-            }
-            if high < n {
-                return Field::Fault(Cause::Limit);
-            }
-            if n % multiple == 0 {
-                return Field::Value(n, next);
-            }
-            Field::Fault(Cause::Limit)
-        }
-        Parsed::Nothing => Field::Fault(Cause::Form),
+    if limits.low <= n && n <= limits.high && n % limits.multiple == 0 {
+        return Ok(n);
     }
+    Err(Cause::Limit)
 }
 
 // A word that SR may be.
-fn status(v: Parsed, next: usize) -> Field
-    ensures { (field_in result ≡ tested (λ n. eqb (allowed n) n) v) × (Next next result) }
+fn status(n: u32) -> Result<u32, Cause>
+    ensures { field_in result ≡ tested (λ n. eqb (allowed n) n) (Some n) }
 {
-    match v {
-        Parsed::Number(n) => {
-            if arith::keep_allowed(n) == n {
-                return Field::Value(n, next);
-            }
-            Field::Fault(Cause::Limit)
-        }
-        Parsed::Nothing => Field::Fault(Cause::Form),
+    if arith::keep_allowed(n) == n {
+        return Ok(n);
     }
+    Err(Cause::Limit)
 }
 
 // How many digits a schedule has.
-fn digits(text: &[u8], cores: u32, next: usize) -> Field
-    ensures { (field_in result ≡ counted (schedule cores text.now)) × (Next next result) }
+fn digits(text: &[u8], cores: u32) -> Result<u32, Cause>
+    ensures { field_in result ≡ counted (schedule cores text.now) }
 {
-    if text.len() < 1 {
-        return Field::Fault(Cause::Form);
+    if text.is_empty() || MAX_DIGITS < text.len() || !digits_below(text, 10) {
+        return Err(Cause::Form);
     }
-    if MAX_DIGITS < text.len() {
-        return Field::Fault(Cause::Form);
+    if !digits_below(text, cores) {
+        return Err(Cause::Limit);
     }
-    if digits_below(text, 10) {
-        if digits_below(text, cores) {
-            return Field::Value(text.len() as u32, next);
-        }
-        return Field::Fault(Cause::Limit);
-    }
-    Field::Fault(Cause::Form)
+    Ok(text.len() as u32)
 }
 
 // Whether every character is a digit below n.
 fn digits_below(text: &[u8], n: u32) -> bool
     ensures { result ≡ digits_below n text.now }
 {
-    let mut i = 0;
-    while i < text.len() {
-        let d = text::digit(text[i]) as u32;
-        if n <= d {
-            return false;
-        }
-        i += 1;
-    }
-    true
+    text.iter().all(|b| u32::from(text::digit(*b)) < n)
 }

@@ -1,31 +1,34 @@
 -- Laws of what is stored one after another: the words of memory, schedules and states. Assumes nothing.
 use Prim.Native.Nat.{ℕ, zero, suc, ◌+◌, ◌-◌, ◌*◌, ◌/◌, ◌%◌, ◌^◌, ◌≤◌, ◌<◌}
 use mathlib.Core.Path.{◌≡◌, refl, ap, sym, ◌∙◌}
-use mathlib.Core.Bool.{Bool, true, false, ◌&&◌}
-use mathlib.Core.List.{List, [], ◌∷◌, ◌++◌, map}
+use mathlib.Core.Bool.{Bool, true}
+use mathlib.Core.List.{List, [], ◌∷◌, ◌++◌, map, append_assoc}
 use native.Mathlib.Numerals.{add-one}
 use native.Mathlib.Omega.{arith}
 use native.Mathlib.Nat.{not-suc-le-zero, mod-lt}
-use borrow.Author.Tests.{eq-eqb, ne_eqb, ltb-true, ltb-false}
-use lib.Dec.{T, ltb}
-use lib.ListN.{length, take, drop, get_or, set, replicate, get_or-append, length-append, length-drop, length-replicate, get_or-replicate, replicate-append-replicate, length-map}
-use lib.Seq.{sets, length-take-le, take-suc, set-append_left, get_or-append-add, get_or-take, get_or-drop, get_or-set_other}
-use Rattle.bits.proofs.Tests.{and_left, and_right}
+use borrow.Author.Tests.{eq-eqb, ne_eqb}
+use lib.Dec.{T}
+use lib.ListN.{length, take, drop, get_or, set, replicate, length-append, length-drop, length-replicate, length-map}
+use borrow.Rule.Slice.PartMut.{put_mid}
+use lib.Seq.{sets, sets-eq, drop-drop, length-take-le, set-append_left}
+use Rattle.std.proofs.lemmas.List.{get_or-map}
+use Rattle.std.proofs.lemmas.List.Folds.{list_all-append}
+use Rattle.bits.proofs.Tests.{and_both}
 use Rattle.text.specs.Ascii.{ascii}
 use Rattle.text.specs.Digits.{digit}
 use Rattle.text.specs.Lines.{Line, lines}
-use Rattle.text.proofs.Stores.{sets_next, sets_front}
+use Rattle.text.proofs.Stores.{sets_next, sets_append, sets_front}
 use Rattle.memory.specs.Memory.{stored}
 use Rattle.memory.proofs.Laws.{length_stored}
-use Rattle.effect.specs.State.{state_words, pc_at, sr_at, esr_at, mode_at, picmr_at, running}
-use Rattle.card.specs.Card.{Job, Verdict, good, refused, image_fault, card_says, step, stop, first, word, every}
+use Rattle.effect.specs.State.{state_words}
+use Rattle.card.specs.Card.{Job, Verdict, good, refused, image_fault, card_says, step, stop, first, word}
+use Rattle.std.specs.List.{list_all}
 use Rattle.card.specs.Answer.{words_from}
 use Rattle.card.proofs.Laws.{every_get_d}
 use Rattle.card.specs.Inner.{step_in}
 use Rattle.card.specs.declared.Cause.{Cause}
-use Rattle.card.specs.declared.value.Field.{Field}
-use Rattle.card.specs.declared.value.Field.TheVariants.{Value, Fault}
-use Rattle.job.specs.Job.{reading, filled, memory_of, image_after, image_length, entries, reset_esr, reset_picmr, reset_state, reset_states}
+use Rattle.std.specs.Prelude.{Result, Ok, Err}
+use Rattle.job.specs.Job.{reading, filled, memory_of, image_after, image_length, entries, reset_state, reset_states}
 
 -- ---- the words of memory
 
@@ -59,11 +62,10 @@ filled_first s t at (w ∷ ws) h =
     ap (λ m. filled m (at + 4) ws) (stored_first 4 s t at w (omega arith)) ∙ filled_first (stored 4 s at w) t (at + 4) ws (omega arith)
 
 -- a memory at the start of an image, filled there
-pub filled_image : (image s ws : List ℕ) → length s ≤ length image → 4 * length ws ≤ length s → filled (sets image 0 s) 0 ws ≡ sets image 0 (filled s 0 ws)
+pub filled_image : (image s ws : List ℕ) → length s ≤ length image → 4 * length ws ≤ length s → filled (s ++ drop (length s) image) 0 ws ≡ sets image 0 (filled s 0 ws)
 filled_image image s ws h g =
     let l : length (filled s 0 ws) ≡ length s = length_filled s 0 ws in
-    ap (λ m. filled m 0 ws) (sets_front image s h)
-    ∙ filled_first s (drop (length s) image) 0 ws (omega arith)
+    filled_first s (drop (length s) image) 0 ws (omega arith)
     ∙ ap (λ n. filled s 0 ws ++ drop n image) (sym l)
     ∙ sym (sets_front image (filled s 0 ws) (omega arith))
 
@@ -81,21 +83,17 @@ from_stop zero ls e = refl
 from_stop (suc n) ls e = simp e
 
 -- the words of the lines from a place on, one by one
-module _ (n : ℕ) (card : List ℕ) (at : ℕ) {r : Field} (s : step_in card r ≡ first (ascii "w=") word (lines (drop at card))) where
-  pub from_value : {w next : ℕ} → 0 < n → r ≡ Value w next → words_from n (lines (drop at card)) ≡ w ∷ words_from (n - 1) (lines (drop next card))
+module _ (n : ℕ) (card : List ℕ) (at : ℕ) {r : Result (ℕ × ℕ) Cause} (s : step_in card r ≡ first (ascii "w=") word (lines (drop at card))) where
+  pub from_value : {w next : ℕ} → 0 < n → r ≡ Ok (w, next) → words_from n (lines (drop at card)) ≡ w ∷ words_from (n - 1) (lines (drop next card))
   from_value h e = from_step n (lines (drop at card)) h (sym s ∙ ap (step_in card) e)
 
-  pub from_fault : {c : Cause} → r ≡ Fault c → words_from n (lines (drop at card)) ≡ []
+  pub from_fault : {c : Cause} → r ≡ Err c → words_from n (lines (drop at card)) ≡ []
   from_fault e = from_stop n (lines (drop at card)) (sym s ∙ ap (step_in card) e)
 
 pub from_none : (n : ℕ) (ls : List Line) → n ≤ 0 → words_from n ls ≡ []
 unfolding words_from
 from_none zero ls h = refl
 from_none (suc n) ls h = absurd (not-suc-le-zero h)
-
--- one zero more
-pub zero_step : (l : List ℕ) (i : ℕ) → set (sets l 0 (replicate i 0)) i 0 ≡ sets l 0 (replicate (i + 1) 0)
-zero_step l i = sets_next l (replicate i 0) 0 (length-replicate i 0) ∙ ap (sets l 0) (replicate-append-replicate i 1 0)
 
 -- ---- the schedule
 
@@ -110,38 +108,21 @@ unfolding entries
 entries_step l s i = sets_next l (entries s i) (get_or s (i % length s) 0) (length_entries s i) ∙ ap (λ k. sets l 0 (entries s k)) (sym (add-one i))
 
 -- if each of a schedule's numbers passes a test, each step's does: with Sound's cores-named, each names a core
-and_both : (a b : Bool) → T a → T b → T (a && b)
-and_both true b t u = u
-and_both false b t u = absurd t
-
-every_append : (f : ℕ → Bool) (xs ys : List ℕ) → T (every f xs) → T (every f ys) → T (every f (xs ++ ys))
-every_append f [] ys t u = u
-every_append f (x ∷ xs) ys t u =
-    and_both (f x) (every f (xs ++ ys)) (and_left (f x) (every f xs) t) (every_append f xs ys (and_right (f x) (every f xs) t) u)
-
-pub every_entry : (f : ℕ → Bool) (s : List ℕ) (n : ℕ) → 0 < length s → T (every f s) → T (every f (entries s n))
+pub every_entry : (f : ℕ → Bool) (s : List ℕ) (n : ℕ) → 0 < length s → T (list_all f s) → T (list_all f (entries s n))
 unfolding entries
 every_entry f s zero h t = tt
 every_entry f s (suc n) h t =
     let v : ℕ = get_or s (n % length s) 0 in
-    every_append f (entries s n) (v ∷ []) (every_entry f s n h t) (and_both (f v) true (every_get_d f s (n % length s) (mod-lt n h) t) tt)
-
-get_d_digits : (t : List ℕ) (k : ℕ) → k < length t → get_or (map digit t) k 0 ≡ digit (get_or t k 0)
-get_d_digits [] k h = absurd (not-suc-le-zero h)
-get_d_digits (b ∷ t) zero h = refl
-get_d_digits (b ∷ t) (suc k) h = get_d_digits t k (omega arith)
+    rw (list_all-append f (entries s n) (v ∷ [])) (and_both (list_all f (entries s n)) (list_all f (v ∷ [])) (every_entry f s n h t) (and_both (f v) true (every_get_d f s (n % length s) (mod-lt n h) t) tt))
 
 -- the digit that a step takes
 pub digit_at : (card : List ℕ) (from n i : ℕ) → 0 < n → from + n ≤ length card
-    → get_or (map digit (take n (drop from card))) (i % length (map digit (take n (drop from card)))) 0 ≡ digit (get_or card (from + i % n) 0)
+    → get_or (map digit (take n (drop from card))) (i % length (map digit (take n (drop from card)))) 0 ≡ digit (get_or (take n (drop from card)) (i % n) 0)
 digit_at card from n i h k =
     let t : List ℕ = take n (drop from card) in
     let m : length t ≡ n = length-take-le n (drop from card) (simp length-drop (omega arith)) in
     let e : length (map digit t) ≡ n = length-map t digit ∙ m in
-    let b : i % n < n = mod-lt i h in
-    rw e
-    (get_d_digits t (i % n) (omega arith)
-    ∙ ap digit (get_or-take n (drop from card) (i % n) 0 b ∙ get_or-drop from card (i % n) 0))
+    rw e (get_or-map digit t (i % n) 0 0 (rw m (mod-lt i h)))
 
 -- ---- the states
 
@@ -150,44 +131,21 @@ unfolding reset_states
 length_states entry sr zero = refl
 length_states entry sr (suc n) = let e = length_states entry sr n in simp (length-append, e) (omega arith)
 
--- a word of a reset state that is not set is 0
-pub reset_zero : (entry sr place : ℕ) → place < state_words → (place ≡ pc_at → ⊥) → (place ≡ sr_at → ⊥) → (place ≡ esr_at → ⊥) → (place ≡ mode_at → ⊥)
-    → (place ≡ picmr_at → ⊥) → 0 ≡ get_or (reset_state entry sr) place 0
-reset_zero entry sr place h not-pc not-sr not-esr not-mode not-picmr =
-    let z : List ℕ = replicate state_words 0 in
-    let a : List ℕ = set z pc_at entry in
-    let b : List ℕ = set a sr_at sr in
-    let d : List ℕ = set b esr_at reset_esr in
-    sym
-    (get_or-set_other (set d mode_at running) picmr_at place reset_picmr 0 not-picmr
-    ∙ get_or-set_other d mode_at place running 0 not-mode
-    ∙ get_or-set_other b esr_at place reset_esr 0 not-esr
-    ∙ get_or-set_other a sr_at place sr 0 not-sr
-    ∙ get_or-set_other z pc_at place entry 0 not-pc
-    ∙ get_or-replicate state_words place 0 0 h)
-
--- each core's state is the reset state
-pub word_reset : (entry sr n i : ℕ) → i < n * state_words → get_or (reset_states entry sr n) i 0 ≡ get_or (reset_state entry sr) (i % state_words) 0
+-- one state more
+pub reset_step : (l : List ℕ) (entry sr i : ℕ) → sets (sets l 0 (reset_states entry sr i)) (i * state_words) (reset_state entry sr) ≡ sets l 0 (reset_states entry sr (i + 1))
 unfolding reset_states
-word_reset entry sr zero i h = absurd (omega arith)
-word_reset entry sr (suc n) i h = reset_or (ltb i (length (reset_states entry sr n))) refl (word_reset entry sr n i)
-  where
-    reset_or : (b : Bool) → ltb i (length (reset_states entry sr n)) ≡ b
-        → (i < n * state_words → get_or (reset_states entry sr n) i 0 ≡ get_or (reset_state entry sr) (i % state_words) 0)
-        → get_or (reset_states entry sr n ++ reset_state entry sr) i 0 ≡ get_or (reset_state entry sr) (i % state_words) 0
-    reset_or true e ih =
-        let k : i < length (reset_states entry sr n) = ltb-true _ _ e in
-        let l : length (reset_states entry sr n) ≡ n * state_words = length_states entry sr n in
-        get_or-append (reset_states entry sr n) (reset_state entry sr) 0 i k ∙ ih (omega arith)
-    reset_or false e ih =
-        let k : length (reset_states entry sr n) ≤ i = ltb-false _ _ e in
-        let l : length (reset_states entry sr n) ≡ n * state_words = length_states entry sr n in
-        let m : i ≡ length (reset_states entry sr n) + i % state_words = omega arith in
-        ap (λ j. get_or (reset_states entry sr n ++ reset_state entry sr) j 0) m ∙ get_or-append-add (reset_states entry sr n) (reset_state entry sr) (i % state_words) 0
+reset_step l entry sr i =
+    let m : i * state_words ≡ 0 + length (reset_states entry sr i) = omega (arith, length_states entry sr i) in
+    ap (λ k. sets (sets l 0 (reset_states entry sr i)) k (reset_state entry sr)) m
+    ∙ sym (sets_append l 0 (reset_states entry sr i) (reset_state entry sr))
+    ∙ ap (λ k. sets l 0 (reset_states entry sr k)) (sym (add-one i))
 
--- one word more
-pub reset_step : (l s : List ℕ) (i : ℕ) → i < length s → set (sets l 0 (take i s)) i (get_or s i 0) ≡ sets l 0 (take (i + 1) s)
-reset_step l s i h = sets_next l (take i s) (get_or s i 0) (length-take-le i s (omega arith)) ∙ ap (sets l 0) (sym (ap (λ k. take k s) (add-one i) ∙ take-suc s i 0 h))
+-- a part that is written over
+pub put_sets : (a k : ℕ) (xs ys : List ℕ) → length ys ≡ k → a + k ≤ length xs → put_mid a k xs ys ≡ sets xs a ys
+put_sets a k xs ys e h =
+    ap (λ d. take a xs ++ (ys ++ d)) (drop-drop k a xs ∙ ap (λ n. drop (a + n) xs) (sym e))
+    ∙ sym (append_assoc (take a xs) ys (drop (a + length ys) xs))
+    ∙ sym (sets-eq ys xs a (omega arith))
 
 -- ---- the answer and the image, by the image's length and by the card
 

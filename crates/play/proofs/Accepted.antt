@@ -19,7 +19,8 @@ use Rattle.lawful.proofs.Accepted.{means_accepted}
 use Rattle.refusal.specs.Lent.{board_of}
 use Rattle.refusal.specs.Refusal.{every_from, memory_fits, states_fit, states_obey, max_schedule, schedule_fits, names_cores, levels_fit, limit_fits, cache_fits, entry_right, entries_right, fast_refusal}
 use Rattle.refusal.proofs.Passes.{none_refused}
-use Rattle.card.specs.Card.{Job, every}
+use Rattle.card.specs.Card.{Job}
+use Rattle.std.specs.List.{list_all}
 use Rattle.card.specs.Answer.{Sound}
 use Rattle.job.specs.Job.{memory_of, reset_esr, reset_state, reset_states}
 use Rattle.job.proofs.Laws.{length_memory, length_states, word_reset as reset-word, length_entries, every_entry}
@@ -74,12 +75,12 @@ module _ (entry sr n : ℕ) (h : entry % 4 ≡ 0) (g : allowed sr ≡ sr) where
 
 -- ---- schedule and cache
 
-every_from_lem : (cores : ℕ) (l : List ℕ) (i : ℕ) → T (every (λ d. ltb d cores) l) → T (every_from (λ i core. ltb core cores) i l)
+every_from_lem : (cores : ℕ) (l : List ℕ) (i : ℕ) → T (list_all (λ d. ltb d cores) l) → T (every_from (λ i core. ltb core cores) i l)
 unfolding every_from
 every_from_lem cores [] i t = tt
 every_from_lem cores (x ∷ l) i t =
-    let a : T (ltb x cores) = and_left (ltb x cores) (every (λ d. ltb d cores) l) t in
-    let b : T (every (λ d. ltb d cores) l) = and_right (ltb x cores) (every (λ d. ltb d cores) l) t in
+    let a : T (ltb x cores) = and_left (ltb x cores) (list_all (λ d. ltb d cores) l) t in
+    let b : T (list_all (λ d. ltb d cores) l) = and_right (ltb x cores) (list_all (λ d. ltb d cores) l) t in
     and_both (ltb x cores) (every_from (λ i core. ltb core cores) (i + 1) l) a (every_from_lem cores l (i + 1) b)
 
 empty_right : (board : Board) (mem : List ℕ) (n i : ℕ) → T (every_from (entry_right board mem) i (replicate n 0))

@@ -1,20 +1,20 @@
 #![tactic(auto)]
 // From a file of vectors and a run card's bytes to the bytes that the runner prints.
-ghost use Rattle.std.specs.Prelude.{◌≡◌, ◌≤◌, T, length};
-ghost use Rattle.card.specs.Answer.{refusal, job_at};
-ghost use Rattle.report.specs.Result.{refusal_text};
-ghost use Rattle.refusal.specs.Lent.{lent};
-ghost use Rattle.refusal.specs.Refusal.{fast_refusal};
+ghost use Rattle.std.specs.Prelude.{◌≡◌, ◌≤◌, IfOk, T};
+ghost use Rattle.card.specs.Card.{max_cores};
+ghost use Rattle.card.specs.Answer.{job_at};
+ghost use Rattle.report.specs.Result.{cores as cores_of, result_text};
 ghost use Rattle.vector_list.specs.Rules.{vectors_fit};
 ghost use Rattle.vectors_file.specs.Answer.{file_of};
-ghost use Rattle.play.specs.Output.{run_text, job_text, card_text, output};
-ghost use Rattle.play.specs.Answer.{output_room, Printed};
-ghost use Rattle.play.specs.Inner.{Ready};
+ghost use Rattle.play.specs.Output.{job_text, output};
+ghost use Rattle.play.specs.Answer.{Printed};
+ghost use Rattle.play.specs.Inner.{Ready, text_of};
 
-use card::{Cause, Job, Reading};
+use card::{Job, Refused};
 use effect::state;
-use report::Written;
-use vectors_file::{Outcome, Source};
+use report::TooSmall;
+use steps::counts::Counts;
+use vectors_file::Source;
 
 const CORES: usize = card::table::MAX_CORES as usize;
 
@@ -31,88 +31,77 @@ const STEPS: usize = card::table::MAX_STEPS as usize;
 // No part of a card's memory is read-only.
 const NO_LIMIT: u32 = 0;
 
-fn print_refusal(out: &mut [u8], cause: Cause, line: u32) -> Written
-    requires { output_room ≤ length out.old }
-    ensures { Printed (refusal_text (refusal cause) line) out.old out.new result }
-{
-    let number = card::number(cause);
-    report::write_refusal(out, number, line)
+// What a good card's run leaves.
+#[derive(Clone, Copy)]
+struct Ran<'a> {
+    counts: Counts,
+    states: &'a [u32],
 }
 
-// A fast run of what it does not refuse, and its result.
-fn print_run(
-    memory: &mut [u8],
-    states: &mut [u32],
-    schedule: &[u8],
-    levels: &[u32],
+// The run of a good card's job, with its memory laid out in the image: all lines are low, and the run starts from an empty
+// decode cache.
+fn run_job<'a>(
     vectors: &[u32],
-    cache: &mut [u64],
-    out: &mut [u8],
-) -> Written
-    requires accepted { fast_refusal (lent memory.old states.old schedule.now levels.now 0 vectors.now) cache.old ≡ 0 }
-    requires output_room_in_bounds { output_room ≤ length out.old }
-    ensures { Printed (run_text (lent memory.old states.old schedule.now levels.now 0 vectors.now) cache.old) out.old out.new result }
-{
-    match engine::fast::fast_run(memory, states, schedule, levels, NO_LIMIT, vectors, cache) {
-        Ok(counts) => report::write_result(out, counts, states),
-        // Cannot be: what a good card asks for is accepted.
-        Err(_) => Written::TooSmall,
-    }
-}
-
-// A good card's job, with its memory laid out in the image: all lines are low, and the run starts from an empty decode cache.
-fn print_job(vectors: &[u32], card: &[u8], job: Job, image: &mut [u8], out: &mut [u8]) -> Written
+    card: &[u8],
+    job: Job,
+    image: &mut [u8],
+    states: &'a mut [u32; STATES],
+) -> Ran<'a>
     requires ready { Ready card.now job image.old }
-    requires output_room_in_bounds { output_room ≤ length out.old }
     requires vectors_listed { T (vectors_fit vectors.now) }
-    ensures { Printed (job_text vectors.now (job_at card.now job)) out.old out.new result }
+    ensures text { result_text result.counts result.states.now ≡ job_text vectors.now (job_at card.now job) }
+    ensures few_cores { cores_of result.states.now ≤ max_cores }
 {
-    let mut states = [0u32; STATES];
     let mut schedule = [0u8; STEPS];
     let levels = [0u32; STEPS];
     let mut cache = [0u64; MEMORY_WORDS];
-    job::reset(&mut states, job.cores, job.entry, job.sr);
+    job::reset(states, job.cores, job.entry, job.sr);
     job::schedule(card, job, &mut schedule);
     let memory = job.memory as usize;
-    let words = job.cores as usize * state::STATE_WORDS;
     let steps = job.steps as usize;
-    let entries = memory / 4;
-    print_run(
+    let states = &mut states[..job.cores as usize * state::STATE_WORDS];
+    let answer = engine::fast::fast_run(
         &mut image[..memory],
-        &mut states[..words],
+        states,
         &schedule[..steps],
         &levels[..steps],
+        NO_LIMIT,
         vectors,
-        &mut cache[..entries],
-        out,
-    )
+        &mut cache[..memory / 4],
+    );
+    let Ok(counts) = answer else {
+        // What a good card asks for is accepted.
+        unreachable!();
+    };
+    Ran { counts, states }
 }
 
-// A card, once the list of vectors is good.
-fn print_card(vectors: &[u32], card: &[u8], out: &mut [u8]) -> Written
-    requires output_room_in_bounds { output_room ≤ length out.old }
-    requires vectors_listed { T (vectors_fit vectors.now) }
-    ensures { Printed (card_text card.now vectors.now) out.old out.new result }
+// The run of a card, after its file of vectors.
+fn run<'a>(
+    source: Source<'_>,
+    card: &[u8],
+    states: &'a mut [u32; STATES],
+) -> Result<Ran<'a>, Refused>
+    ensures text { text_of result ≡ output (file_of source.entry) card.now }
+    ensures few_cores { IfOk result (λ ran. cores_of ran.states.now ≤ max_cores) }
 {
+    let list = vectors_file::read(source)?;
     let mut image = [0u8; job::IMAGE];
-    match job::read_job(card, &mut image) {
-        Reading::Good(job) => print_job(vectors, card, job, &mut image, out),
-        Reading::Bad(cause, line) => print_refusal(out, cause, line),
-    }
+    let job = job::read_job(card, &mut image)?;
+    Ok(run_job(&list, card, job, &mut image, states))
 }
 
-// What the runner prints for a file of vectors and a card; or that the bytes lent are too few for the longest output, and nothing is written.
-pub fn run_card(source: Source, file: &[u8], card: &[u8], out: &mut [u8]) -> Written
-    ensures { Printed (output (file_of source file.now) card.now) out.old out.new result }
+// What the runner prints for a file of vectors and a card, and how many bytes that is; or that the bytes lent are too few
+// for the longest output, and nothing is written.
+pub fn run_card(source: Source<'_>, card: &[u8], out: &mut [u8]) -> Result<usize, TooSmall>
+    ensures { Printed (output (file_of source.entry) card.now) out.old out.new result }
 {
     if out.len() < ROOM {
-        return Written::TooSmall;
+        return Err(TooSmall);
     }
-    let reading = vectors_file::read(source, file);
-    let outcome = reading.outcome;
-    let list = reading.list;
-    match outcome {
-        Outcome::Good => print_card(&list, card, out),
-        Outcome::Bad(cause, line) => print_refusal(out, cause, line),
+    let mut states = [0u32; STATES];
+    match run(source, card, &mut states) {
+        Ok(ran) => report::write_result(out, ran.counts, ran.states),
+        Err(refused) => report::write_refusal(out, u32::from(refused.cause), refused.line),
     }
 }

@@ -1,8 +1,8 @@
 -- How many digits a number has. Assumes nothing.
 use mathlib.Core.Path.{◌≡◌, refl, ap, sym, ◌∙◌}
 use mathlib.Core.Bool.{Bool, true, false}
-use Prim.Native.Nat.{ℕ, zero, suc, ◌+◌, ◌-◌, ◌*◌, ◌/◌, ◌^◌, ◌≤◌, ◌<◌}
-use native.Mathlib.Nat.{one-le-pow, le-div_iff_mul-le, div-lt_iff_lt-mul, div-div-eq-div-mul, pow-suc}
+use Prim.Native.Nat.{ℕ, zero, suc, ◌+◌, ◌*◌, ◌/◌, ◌^◌, ◌≤◌, ◌<◌}
+use native.Mathlib.Nat.{le_trans, pow-suc, pow-le-pow_right}
 use native.Mathlib.Numerals.{add-one}
 use native.Mathlib.Omega.{arith}
 use borrow.Author.Tests.{lt-ltb, le-ltb}
@@ -24,6 +24,18 @@ module _ (test : ℕ → Bool) where
   pub least_later : (k n : ℕ) → test k ≡ false → least_from test k (suc n) ≡ least_from test (suc k) n
   unfolding least_from seek
   least_later k n e = rw e
+
+  -- the first number that passes
+  pub least_is : (k n j : ℕ) → k ≤ j → j ≤ k + n → test j ≡ true → ((i : ℕ) → i < j → k ≤ i → test i ≡ false) → least_from test k n ≡ j
+  unfolding least_from seek
+  least_is k zero j l h e below = omega arith
+  least_is k (suc n) j l h e below = go (test k) refl (λ a. least_is (suc k) n j a (omega arith) e (λ i b c. below i b (omega arith)))
+    where
+      go : (b : Bool) → test k ≡ b → (suc k ≤ j → least_from test (suc k) n ≡ j) → least_from test k (suc n) ≡ j
+      go true y r =
+          let z : k < j → ⊥ = λ q. let f : test k ≡ false = below k q (omega arith) in cc in
+          rw (least_here k (suc n) y) (omega arith)
+      go false y r = rw (least_later k n y) (r (let z : k ≡ j → ⊥ = λ q. let f : test k ≡ true = ap test q ∙ e in cc in omega arith))
 
   pub least_le : (k n j : ℕ) → test j ≡ true → k ≤ j → least_from test k n ≤ j
   unfolding least_from seek
@@ -49,42 +61,21 @@ pub length_hexadecimal : (n : ℕ) → length (hexadecimal n) ≡ 8
 unfolding hexadecimal
 length_hexadecimal n = length_digits 16 8 n
 
--- the search for a number's places has come to k, and `rest` is the number without its k lowest digits
-pub record Seeking (n k rest : ℕ) : Type 0 where
-  pub same : least_from (λ j. ltb n (10 ^ j)) k (n + 1 - k) ≡ decimal_places n
-  pub high : rest ≡ n / 10 ^ k
-  pub bound : k + rest ≤ 1 + n / 10
+lt_power : (k : ℕ) → k < 10 ^ k
+lt_power zero = omega arith
+lt_power (suc k) = let h = lt_power k in rw pow-suc (omega arith)
 
-pub seek_first : (n : ℕ) → Seeking n 1 (n / 10)
+-- a number from 10 ^ k on and below 10 ^ (k + 1) has k + 1 digits
+pub places_of : (n k : ℕ) → 10 ^ k ≤ n → n < 10 * 10 ^ k → k + 1 ≡ decimal_places n
 unfolding decimal_places
-seek_first n =
-    let z : n + 1 - 1 ≡ n = omega arith in
-    record { same = ap (least_from (λ j. ltb n (10 ^ j)) 1) z; high = refl; bound = omega arith }
+places_of n k l h =
+    let q : k < 10 ^ k = lt_power k in
+    sym (least_is (λ j. ltb n (10 ^ j)) 1 n (k + 1) (omega arith) (omega arith) (lt-ltb n (10 ^ (k + 1)) (rw (add-one, pow-suc) (omega arith)))
+    (λ j b a. le-ltb n (10 ^ j) (le_trans (pow-le-pow_right (omega arith) (omega arith)) l)))
 
-ten_pos : (k : ℕ) → 0 < 10 ^ k
-ten_pos k = one-le-pow k 10 (omega arith)
-
-pub seek_next : (n k rest : ℕ) → 0 < rest → Seeking n k rest → Seeking n (k + 1) (rest / 10)
-seek_next n k rest h s =
-    let b : k + rest ≤ 1 + n / 10 = s.bound in
-    let one : 1 ≤ n / 10 ^ k = rw s.high at h in
-    let big : 1 * 10 ^ k ≤ n = (le-div_iff_mul-le (ten_pos k)).0 one in
-    let z : n + 1 - k ≡ suc (n + 1 - (k + 1)) = omega arith in
-    record {
-      same =
-          ap (λ j. least_from (λ j. ltb n (10 ^ j)) j (n + 1 - (k + 1))) (add-one k)
-          ∙ sym (least_later (λ j. ltb n (10 ^ j)) k (n + 1 - (k + 1)) (le-ltb n (10 ^ k) (omega arith)))
-          ∙ ap (least_from (λ j. ltb n (10 ^ j)) k) (sym z)
-          ∙ s.same;
-      high = ap (λ x. x / 10) s.high ∙ div-div-eq-div-mul n (10 ^ k) 10 ∙ ap (λ x. n / x) (sym (pow-suc 10 k) ∙ ap (λ j. 10 ^ j) (sym (add-one k)));
-      bound = omega arith;
-    }
-
-pub seek_last : (n k rest : ℕ) → rest ≤ 0 → Seeking n k rest → k ≡ decimal_places n
-seek_last n k rest h s =
-    let none : n / 10 ^ k < 1 = let e : rest ≡ n / 10 ^ k = s.high in omega arith in
-    let small : n < 1 * 10 ^ k = (div-lt_iff_lt-mul (ten_pos k)).0 none in
-    sym (least_here (λ j. ltb n (10 ^ j)) k (n + 1 - k) (lt-ltb n (10 ^ k) (omega arith))) ∙ s.same
+pub places_of_zero : (n : ℕ) → n ≡ 0 → 1 ≡ decimal_places n
+unfolding decimal_places least_from seek
+places_of_zero n e = rw e
 
 pub length_decimal : (n : ℕ) → length (decimal n) ≡ decimal_places n
 unfolding decimal

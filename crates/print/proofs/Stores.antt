@@ -1,54 +1,66 @@
--- Texts put into bytes: one after another, from the last character, and in a loop. Assumes nothing.
+-- What a writer puts: texts one after another, or in a loop; and digits from the last. Assumes nothing.
 use mathlib.Core.Path.{◌≡◌, refl, ap, sym, ◌∙◌}
-use mathlib.Core.List.{List, [], ◌∷◌, ◌++◌}
+use mathlib.Core.List.{List, [], ◌∷◌, ◌++◌, append_assoc}
 use Prim.Native.Nat.{ℕ, zero, suc, ◌+◌, ◌-◌, ◌/◌, ◌%◌, ◌≤◌, ◌<◌}
 use native.Mathlib.Nat.{not-suc-le-zero}
-use native.Mathlib.Numerals.{add-one}
 use native.Mathlib.Omega.{arith}
-use lib.ListN.{length, drop, get_or, set, length-append}
-use lib.Seq.{sets, length-sets, drop-cons}
+use lib.ListN.{length, set, length-append}
+use lib.Seq.{sets, length-sets, sets-eq, drop-drop}
+use borrow.Rule.Slice.PartMut.{put_mid}
 use Rattle.text.specs.Digits.{glyph}
 use Rattle.text.proofs.Stores.{sets_append, sets_set}
 use Rattle.print.specs.Digits.{digits}
-use Rattle.print.specs.Inner.{Put}
+use Rattle.print.specs.Inner.{Puts, Fits}
+use Rattle.print.specs.declared.Writer.{Writer}
 use Rattle.print.proofs.Places.{length_digits}
 
-pub put_of : (before : List ℕ) (at : ℕ) (text after : List ℕ) (next : ℕ) → after ≡ sets before at text → next ≡ at + length text →
-    Put before at text after next
-put_of before at text after next e n = record { stored = e; ends = n; kept = ap length e ∙ length-sets before at text }
+-- what a writer puts: its length stays, since the text is stored into what was there
+pub puts_of : {before after : Writer} (text : List ℕ) → after.out.ghost_name ≡ before.out.ghost_name → after.out.now ≡ sets before.out.now before.at text →
+    after.at ≡ before.at + length text → Puts before text after
+puts_of {before} text r e n =
+    record { same_reference = r; stored = e; ends = n; kept = ap length e ∙ length-sets before.out.now before.at text }
+
+pub puts_nothing : {w : Writer} → Puts w [] w
+puts_nothing = puts_of [] refl refl (omega arith)
 
 -- a text after another
-pub put_then : {before : List ℕ} {at : ℕ} {s middle : List ℕ} {next : ℕ} {t after : List ℕ} {last : ℕ} → Put before at s middle next →
-    Put middle next t after last → Put before at (s ++ t) after last
-put_then {before} {at} {s} {middle} {next} {t} {after} {last} p q =
-    put_of before at (s ++ t) after last
-    (q.stored ∙ ap (λ m. sets m next t) p.stored ∙ ap (λ k. sets (sets before at s) k t) p.ends ∙ sym (sets_append before at s t))
+pub puts_then : {before middle after : Writer} {s t : List ℕ} → Puts before s middle → Puts middle t after → Puts before (s ++ t) after
+puts_then {before} {middle} {after} {s} {t} p q =
+    puts_of (s ++ t) (q.same_reference ∙ p.same_reference)
+    (q.stored ∙ ap (λ m. sets m middle.at t) p.stored ∙ ap (λ k. sets (sets before.out.now before.at s) k t) p.ends ∙ sym (sets_append before.out.now before.at s t))
     (q.ends ∙ ap (λ k. k + length t) p.ends ∙ rw length-append (omega arith))
 
--- of a text that is being put into `before` from `at` on, `rest` is still to come, from `next` on
-pub record Rest (before : List ℕ) (at : ℕ) (text now : List ℕ) (next : ℕ) (rest : List ℕ) : Type 0 where
-  pub stored : sets now next rest ≡ sets before at text
-  pub ends : next + length rest ≡ at + length text
-  pub kept : length now ≡ length before
+-- of a text that is being put by the writer `before`, `rest` is still to come
+pub record Rest (before : Writer) (text : List ℕ) (now : Writer) (rest : List ℕ) : Type 0 where
+  pub same_reference : now.out.ghost_name ≡ before.out.ghost_name
+  pub stored : sets now.out.now now.at rest ≡ sets before.out.now before.at text
+  pub ends : now.at + length rest ≡ before.at + length text
+  pub kept : length now.out.now ≡ length before.out.now
 
-pub rest_all : (before : List ℕ) (at : ℕ) (text : List ℕ) → Rest before at text before at text
-rest_all before at text = record { stored = refl; ends = refl; kept = refl }
+pub rest_all : (w : Writer) (text : List ℕ) → Rest w text w text
+rest_all w text = record { same_reference = refl; stored = refl; ends = refl; kept = refl }
 
-pub rest_put : {before : List ℕ} {at : ℕ} {text now : List ℕ} {next : ℕ} {rest s after : List ℕ} {last : ℕ} → (t : List ℕ) →
-    Rest before at text now next rest → rest ≡ s ++ t → Put now next s after last → Rest before at text after last t
-rest_put {before} {at} {text} {now} {next} {rest} {s} {after} {last} t r e p =
+pub rest_put : {before now after : Writer} {text rest s : List ℕ} → (t : List ℕ) → Rest before text now rest → rest ≡ s ++ t → Puts now s after →
+    Rest before text after t
+rest_put {before} {now} {after} {text} {rest} {s} t r e p =
     record {
+      same_reference = p.same_reference ∙ r.same_reference;
       stored =
-          ap (λ m. sets m last t) p.stored ∙ ap (λ k. sets (sets now next s) k t) p.ends ∙ sym (sets_append now next s t)
-          ∙ ap (sets now next) (sym e) ∙ r.stored;
-      ends = let l : length rest ≡ length s + length t = ap length e ∙ length-append s t in omega arith;
+          ap (λ m. sets m after.at t) p.stored ∙ ap (λ k. sets (sets now.out.now now.at s) k t) p.ends ∙ sym (sets_append now.out.now now.at s t)
+          ∙ ap (sets now.out.now now.at) (sym e) ∙ r.stored;
+      ends = let l : length rest ≡ length s + length t = ap length e ∙ length-append s t in let k = p.ends in let m = r.ends in omega arith;
       kept = p.kept ∙ r.kept;
     }
 
-pub rest_none : {before : List ℕ} {at : ℕ} {text now : List ℕ} {next : ℕ} {rest : List ℕ} → Rest before at text now next rest → rest ≡ [] →
-    Put before at text now next
-rest_none {before} {at} {text} {now} {next} {rest} r e =
-    put_of before at text now next (ap (sets now next) (sym e) ∙ r.stored) (let l : length rest ≡ 0 = ap length e in omega arith)
+pub rest_none : {before now : Writer} {text rest : List ℕ} → Rest before text now rest → rest ≡ [] → Puts before text now
+rest_none {before} {now} {text} {rest} r e =
+    puts_of text r.same_reference (ap (sets now.out.now now.at) (sym e) ∙ r.stored) (let l : length rest ≡ 0 = ap length e in let m = r.ends in omega arith)
+
+-- there is room for a part of what is still to come
+pub rest_room : {before now : Writer} {text rest : List ℕ} → (s t : List ℕ) → Rest before text now rest → rest ≡ s ++ t → Fits before text → Fits now s
+rest_room {before} {now} {text} {rest} s t r e h =
+    let l : length rest ≡ length s + length t = ap length e ∙ length-append s t in let m = r.ends in let k = r.kept in
+    omega arith
 
 -- digits are put from the last to the first
 pub digits_put : (out : List ℕ) (at base i n : ℕ) → 0 < i →
@@ -63,20 +75,10 @@ digits_put out at base (suc i) n h =
     ∙ ap (λ k. set (sets out at (digits base i (n / base))) (at + k) (glyph (n % base))) (sym l)
     ∙ sym (sets_append out at (digits base i (n / base)) (glyph (n % base) ∷ [])))
 
--- a turn of a loop that copies
-pub rest_store : (before : List ℕ) (at : ℕ) (text now : List ℕ) (i : ℕ) → i < length text → Rest before at text now (at + i) (drop i text) →
-    Rest before at text (set now (at + i) (get_or text i 0)) (at + (i + 1)) (drop (i + 1) text)
-rest_store before at text now i h r =
-    rest_put (drop (i + 1) text) r (rw add-one (drop-cons text i 0 h))
-    (put_of now (at + i) (get_or text i 0 ∷ []) (set now (at + i) (get_or text i 0)) (at + (i + 1)) refl (omega arith))
-
 pub no_digits : (out : List ℕ) (at base i n : ℕ) → i ≡ 0 → out ≡ sets out at (digits base i n)
 unfolding digits
 no_digits out at base i n z = rw z
 
--- there is room for a part of what is still to come
-pub rest_room : {before : List ℕ} {at : ℕ} {text now : List ℕ} {next : ℕ} {rest : List ℕ} → (s t : List ℕ) → Rest before at text now next rest →
-    rest ≡ s ++ t → at + length text ≤ length before → next + length s ≤ length now
-rest_room {before} {at} {text} {now} {next} {rest} s t r e h =
-    let l : length rest ≡ length s + length t = ap length e ∙ length-append s t in
-    omega arith
+-- a text that is copied into a part of the bytes
+pub copied : (out text new : List ℕ) (at k : ℕ) → k ≡ length text → new ≡ text → at + length text ≤ length out → put_mid at k out new ≡ sets out at text
+copied out text new at k e n h = rw (n, e, drop-drop, sets-eq text out at h, append_assoc)

@@ -1,14 +1,19 @@
 -- A register's line, and the turns of the loops over registers and cores. Assumes nothing.
-use mathlib.Core.Path.{◌≡◌}
-use mathlib.Core.List.{List, [], ◌++◌}
-use Prim.Native.Nat.{ℕ, suc, ◌+◌, ◌-◌, ◌*◌, ◌<◌}
+use mathlib.Core.Path.{◌≡◌, refl, ap₂}
+use mathlib.Core.List.{List, [], ◌∷◌, ◌++◌}
+use Prim.Native.Nat.{ℕ, zero, suc, ◌+◌, ◌<◌}
 use native.Mathlib.Numerals.{add-one}
-use native.Mathlib.Omega.{arith}
-use lib.ListN.{length, take, drop, get_or, length-drop}
-use lib.Seq.{drop-cons, drop-drop, take_all}
+use lib.ListN.{length, take, drop, get_or, length-append}
+use Rattle.print.proofs.Places.{length_hexadecimal}
+use lib.Dec.{lit<, lit≤}
+use lib.Seq.{drop-cons, get_or-take, take-take}
+use Rattle.std.specs.Simd.{first_chunks}
 use borrow.Author.Tests.{eq-eqb, ne_eqb}
-use Rattle.effect.specs.State.{state_words}
-use Rattle.report.specs.Result.{keyed_decimal, keyed_word, line_feed, register_line, register_lines, core_text, core_texts}
+use Rattle.effect.specs.State.{state_words, pc_at, delay_at, sr_at, mode_at}
+use Rattle.report.specs.Result.{registers, keyed_decimal, keyed_word, line_feed, register_line, register_lines, core_line, core_text, core_texts}
+
+-- how long a text of parts is
+pub ruleset lengths = (length-append, length_hexadecimal)
 
 pub register_zero : (number value : ℕ) → value ≡ 0 → register_line number value ≡ []
 unfolding register_line
@@ -17,6 +22,8 @@ register_zero number value e = rw (eq-eqb value 0 e)
 pub register_other : (number value : ℕ) → (value ≡ 0 → ⊥) → register_line number value ≡ keyed_decimal "r" number ++ keyed_word "=" value ++ line_feed
 unfolding register_line
 register_other number value n = rw (ne_eqb value 0 n)
+
+pub ruleset register_lengths = (length-append, length_hexadecimal, register_other)
 
 pub next_register : (values : List ℕ) (i : ℕ) → i < length values →
     register_lines i (drop i values) ≡ register_line i (get_or values i 0) ++ register_lines (i + 1) (drop (i + 1) values)
@@ -27,19 +34,29 @@ pub no_register : (i : ℕ) (values : List ℕ) → values ≡ [] → register_l
 unfolding register_lines
 no_register i values e = rw e
 
-pub next_core : (states : List ℕ) (n i : ℕ) → i < n →
-    core_texts i (n - i) (drop (i * state_words) states)
-    ≡ core_text i (drop (i * state_words) states) ++ core_texts (i + 1) (n - (i + 1)) (drop ((i + 1) * state_words) states)
-unfolding core_texts
-next_core states n i h =
-    let z : n - i ≡ suc (n - (i + 1)) = omega arith in
-    let d : (i + 1) * state_words ≡ i * state_words + state_words = omega arith in
-    rw (z, d, add-one, drop-drop)
+-- a core's text reads its own words alone
+own_text : (core : ℕ) (states : List ℕ) → core_text core (take state_words states) ≡ core_text core states
+unfolding core_text core_line
+own_text core states =
+    let r : take registers (take state_words states) ≡ take registers states = take-take registers state_words states (lit≤ tt) in
+    let w = λ (i : ℕ) (h : i < state_words). get_or-take state_words states i 0 h in
+    rw (w mode_at (lit< tt), w pc_at (lit< tt), w delay_at (lit< tt), w sr_at (lit< tt), r)
 
-pub no_core : (i n : ℕ) (states : List ℕ) → n ≡ 0 → core_texts i n states ≡ []
-unfolding core_texts
-no_core i n states e = rw e
+-- the text of cores from a number on, each by its own words
+unfoldable pub whole_texts : ℕ → List (List ℕ) → List ℕ
+whole_texts core [] = []
+whole_texts core (state ∷ states) = core_text core state ++ whole_texts (suc core) states
 
--- a slice from k on
-pub tail_all : (l : List ℕ) (k : ℕ) → take (length l - k) (drop k l) ≡ drop k l
-tail_all l k = take_all (length l - k) (drop k l) (rw length-drop (omega arith))
+pub whole_cores : (core n : ℕ) (states : List ℕ) → whole_texts core (first_chunks state_words n states) ≡ core_texts core n states
+unfolding whole_texts core_texts
+whole_cores core zero states = refl
+whole_cores core (suc n) states = ap₂ (λ s t. s ++ t) (own_text core states) (whole_cores (suc core) n (drop state_words states))
+
+pub next_core : (states : List (List ℕ)) (i : ℕ) → i < length states →
+    whole_texts i (drop i states) ≡ core_text i (get_or states i []) ++ whole_texts (i + 1) (drop (i + 1) states)
+unfolding whole_texts
+next_core states i h = rw (add-one, drop-cons states i [])
+
+pub no_core : (i : ℕ) (states : List (List ℕ)) → states ≡ [] → whole_texts i states ≡ []
+unfolding whole_texts
+no_core i states e = rw e

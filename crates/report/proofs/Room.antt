@@ -6,19 +6,20 @@ use Prim.Native.Nat.{ℕ, zero, suc, ◌+◌, ◌*◌, ◌^◌, ◌≤◌, ◌<�
 use native.Mathlib.Omega.{arith}
 use lib.Dec.{eqb}
 use lib.ListN.{length, get_or, take, drop, length-append, length-take}
-use lib.Seq.{get_or-drop, sets-eq}
+use lib.Seq.{get_or-drop, sets, sets-eq}
 use borrow.Author.Tests.{lt-ltb, le-ltb, eqb-true, eqb-false}
 use Rattle.effect.specs.State.{state_words}
 use Rattle.steps.specs.declared.counts.Counts.{Counts}
 use Rattle.print.specs.Digits.{decimal}
-use Rattle.print.specs.Inner.{Put}
+use Rattle.print.specs.Inner.{Puts}
+use Rattle.print.specs.declared.Writer.{Writer}
 use Rattle.print.proofs.Places.{decimal_le, length_hexadecimal}
-use Rattle.report.specs.Answer.{counts_room, core_room, refusal_room, answer, written}
-use Rattle.report.specs.Result.{registers, count_lines, core_line, register_line, register_lines, core_text, core_texts, refusal_text}
-use Rattle.report.specs.declared.Written.TheVariants.{Bytes, TooSmall}
+use Rattle.report.specs.Answer.{counts_room, core_room, result_room, refusal_room, answer, written}
+use Rattle.report.specs.Result.{registers, count_lines, core_line, register_line, register_lines, core_text, core_texts, cores, result_text, refusal_text}
+use Rattle.std.specs.Prelude.{Ok, Err}
 use Rattle.report.proofs.Lines.{register_zero, register_other}
 
-pub word_le : (n : ℕ) → n < 2 ^ 32 → length (decimal n) ≤ 10
+word_le : (n : ℕ) → n < 2 ^ 32 → length (decimal n) ≤ 10
 word_le n h = decimal_le n 10 (omega arith) (omega arith)
 
 pub refusal_le : (number line : ℕ) → number < 2 ^ 32 → line < 2 ^ 32 → length (refusal_text number line) ≤ refusal_room
@@ -28,7 +29,7 @@ refusal_le number line h k =
     let b : length (decimal line) ≤ 10 = word_le line k in
     simp length-append (omega arith)
 
-pub counts_le : (counts : Counts) → counts.executed < 2 ^ 32 → counts.raised < 2 ^ 32 → counts.reused < 2 ^ 32 →
+counts_le : (counts : Counts) → counts.executed < 2 ^ 32 → counts.raised < 2 ^ 32 → counts.reused < 2 ^ 32 →
     length (count_lines counts) ≤ counts_room
 unfolding count_lines
 counts_le counts h k l =
@@ -75,7 +76,7 @@ core_le core state h w =
     register_lines_le 0 (take registers state) (omega arith) in
     simp length-append (omega arith)
 
-pub cores_le : (core n : ℕ) (states : List ℕ) → core + n < 10 ^ 20 → AllWords states → length (core_texts core n states) ≤ n * core_room
+cores_le : (core n : ℕ) (states : List ℕ) → core + n < 10 ^ 20 → AllWords states → length (core_texts core n states) ≤ n * core_room
 unfolding core_texts
 cores_le core zero states h w = omega arith
 cores_le core (suc n) states h w =
@@ -84,17 +85,27 @@ cores_le core (suc n) states h w =
     cores_le (suc core) n (drop state_words states) (omega arith) (λ i. rw (get_or-drop state_words states i 0) (w (state_words + i))) in
     simp length-append (omega arith)
 
+pub result_le : (counts : Counts) (states : List ℕ) → counts.executed < 2 ^ 32 → counts.raised < 2 ^ 32 → counts.reused < 2 ^ 32 →
+    cores states < 10 ^ 20 → AllWords states → length (result_text counts states) ≤ result_room (cores states)
+unfolding result_text
+result_le counts states h k l n w =
+    let a : length (count_lines counts) ≤ counts_room = counts_le counts h k l in
+    let b : length (core_texts 0 (cores states) states) ≤ cores states * core_room = cores_le 0 (cores states) states (omega arith) w in
+    simp length-append (omega arith)
+
 -- the answer, and what is left, in each case
-pub too_small : (room : ℕ) (text out : List ℕ) → length out < room → (TooSmall ≡ answer room text out) × (out ≡ written room text out)
+pub too_small : (room : ℕ) (text out : List ℕ) → length out < room → (Err (record {}) ≡ answer room text out) × (out ≡ written room text out)
 unfolding answer written
 too_small room text out h = (rw (lt-ltb (length out) room h), rw (lt-ltb (length out) room h))
 
-pub fits : {out text after : List ℕ} {next : ℕ} → (room : ℕ) → room ≤ length out → length text ≤ room → Put out 0 text after next →
-    (Bytes next ≡ answer room text out) × (after ≡ written room text out)
-unfolding answer written
-fits {out} {text} {after} {next} room h l p =
-    let z : 0 + length text ≡ length text = omega arith in
-    let e : next ≡ length text = p.ends ∙ z in (
-      rw (le-ltb (length out) room h) (ap Bytes e),
-      rw (le-ltb (length out) room h) (p.stored ∙ sets-eq text out 0 (omega arith) ∙ ap (λ k. text ++ drop k out) z),
-    )
+module _ {before after : Writer} {out text : List ℕ} (room : ℕ) (b : before.out.now ≡ out) (z : before.at ≡ 0) (h : room ≤ length out) (l : length text ≤ room)
+    (p : Puts before text after) where
+  pub fits : (Ok after.at ≡ answer room text out) × (after.out.now ≡ written room text out)
+  unfolding answer written
+  fits =
+      let n : 0 + length text ≡ length text = omega arith in
+      let e : after.at ≡ length text = p.ends ∙ ap (λ k. k + length text) z ∙ n in (
+        rw (le-ltb (length out) room h) (ap (λ (k : ℕ). Ok k) e),
+        rw (le-ltb (length out) room h)
+            (p.stored ∙ ap (λ m. sets m before.at text) b ∙ ap (λ k. sets out k text) z ∙ sets-eq text out 0 (omega arith) ∙ ap (λ k. text ++ drop k out) n),
+      )

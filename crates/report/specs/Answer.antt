@@ -1,13 +1,12 @@
 -- What the two writers answer, and what they leave in the bytes that the caller lends.
-use Rattle.std.specs.Prelude.{List, ◌++◌, ℕ, ◌+◌, ◌*◌, ltb, length, drop, if◌then◌else◌}
+use Rattle.std.specs.Prelude.{Result, Ok, Err, List, ◌++◌, ℕ, ◌+◌, ◌*◌, ltb, length, drop, if◌then◌else◌}
 use Rattle.report.specs.Result.{registers}
-use Rattle.report.specs.declared.Written.{Written}
-use Rattle.report.specs.declared.Written.TheVariants.{Bytes, TooSmall}
+use Rattle.report.specs.declared.TooSmall.{TooSmall}
 
 -- a text is written at the start of the caller's bytes, and the answer is its length. If they have not the room for the longest such text, nothing
 -- is written, and the answer says so
-unfoldable pub answer : ℕ → List ℕ → List ℕ → Written
-answer room text out = if ltb (length out) room then TooSmall else Bytes (length text)
+unfoldable pub answer : ℕ → List ℕ → List ℕ → Result ℕ TooSmall
+answer room text out = if ltb (length out) room then Err (record {}) else Ok (length text)
 
 unfoldable pub written : ℕ → List ℕ → List ℕ → List ℕ
 written room text out = if ltb (length out) room then out else text ++ drop (length text) out

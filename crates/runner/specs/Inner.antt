@@ -1,21 +1,19 @@
 -- Where the bytes that were read lie in the buffer, and how the file of vectors was found. Which bytes came, and what opening the file answered, nobody can
 -- say: examples/cards/check tries it.
-use Rattle.std.specs.Prelude.{List, ◌≡◌, ℕ, ◌+◌, ◌≤◌, length, take}
+use Rattle.std.specs.Prelude.{Result, Ok, Err, IfOk, List, ◌≡◌, ℕ, ◌+◌, ◌≤◌, length, take}
+use Rattle.std.specs.declared.io.Error.{Error}
 use Rattle.std.specs.declared.io.ErrorKind.{ErrorKind}
 use Rattle.std.specs.declared.io.ErrorKind.TheVariants.{NotFound}
 use Rattle.vectors_file.specs.declared.Source.{Source}
 use Rattle.vectors_file.specs.declared.Source.TheVariants as S
-use Rattle.runner.specs.declared.Input.{Input}
-use Rattle.runner.specs.declared.Input.TheVariants.{Bytes, Failed}
 use Rattle.runner.specs.declared.Found.{Found}
 
 -- as many bytes as the answer counts, from `at` on, lie in the buffer
-abbrev pub Within : ℕ → List ℕ → Input → Type 0
-Within at buf (Bytes n) = at + n ≤ length buf
-Within at buf Failed = Unit
+abbrev pub Within : ℕ → List ℕ → Result ℕ Error → Type 0
+Within at buf r = IfOk r (λ n. at + n ≤ length buf)
 
 -- a read from `at` on: what came before it is kept
-pub record More (at : ℕ) (buf buf' : List ℕ) (r : Input) : Type 0 where
+pub record More (at : ℕ) (buf buf' : List ℕ) (r : Result ℕ Error) : Type 0 where
   pub within : Within at buf' r
   pub kept : take at buf' ≡ take at buf
 
@@ -25,6 +23,6 @@ unopened_by NotFound = S.Absent
 unopened_by _ = S.Unreadable
 
 -- a file that was opened has the bytes that came, or cannot be read
-abbrev pub opened_by : Input → Found
-opened_by (Bytes n) = record { source = S.Bytes; bytes = n }
-opened_by Failed = record { source = S.Unreadable; bytes = 0 }
+abbrev pub opened_by : Result ℕ Error → Found
+opened_by (Ok n) = record { source = S.Bytes; bytes = n }
+opened_by (Err _) = record { source = S.Unreadable; bytes = 0 }

@@ -4,49 +4,36 @@
 ghost use Rattle.std.specs.Prelude.{◌≡◌, ◌≤◌, length};
 ghost use Rattle.runner.specs.Inner.{Within, More, unopened_by, opened_by};
 
-use report::Written;
 use std::fs;
-use std::io::{ErrorKind, Read};
+use std::io::{self, ErrorKind, Read};
 use std::rt::Files;
 use vectors_file::Source;
 
 // One byte more than a card or a file of vectors may have, so that a longer one is seen.
 const ROOM: usize = 65537;
 
-// How many bytes came; or that a read failed, which is not the end of the input.
-#[derive(Clone, Copy)]
-pub enum Input {
-    Bytes(usize),
-    Failed,
-}
-
 // One read into buf from `at` on; no bytes are the end of the input.
-fn read_more<R: Read>(from: &mut R, buf: &mut [u8], at: usize) -> Input
+fn read_more<R: Read>(from: &mut R, buf: &mut [u8], at: usize) -> io::Result<usize>
     requires { at ≤ length buf.old }
     ensures { More at buf.old buf.new result }
 {
-    let rest = &mut buf[at..];
-    let Ok(got) = from.read(rest) else {
-        return Input::Failed;
-    };
-    Input::Bytes(got)
+    from.read(&mut buf[at..])
 }
 
-// Reads until buf is full or the input ends. A read may hand over a part of what is still to come, so only one without bytes is the end.
-fn read_all<R: Read>(from: &mut R, buf: &mut [u8]) -> Input
+// Reads until buf is full or the input ends, and says how many bytes came. A read may hand over a part of what is still to
+// come, so only one without bytes is the end; one that fails is not. A `while`: std's `read_to_end` needs the heap, its
+// `read_exact` fails on a shorter input, and its `copy` reads again where a signal made a read fail.
+fn read_all<R: Read>(from: &mut R, buf: &mut [u8]) -> io::Result<usize>
     ensures { Within 0 buf.new result }
 {
     let mut done = 0;
     while done < buf.len() {
-        let Input::Bytes(n) = read_more(from, buf, done) else {
-            return Input::Failed;
-        };
-        if n == 0 {
-            break;
+        match read_more(from, buf, done)? {
+            0 => break,
+            n => done += n,
         }
-        done += n;
     }
-    Input::Bytes(done)
+    Ok(done)
 }
 
 // How the file of vectors was found, and how many of its bytes were read.
@@ -60,22 +47,22 @@ pub struct Found {
 fn unopened(error: ErrorKind) -> Source
     ensures { result ≡ unopened_by error }
 {
-    if error == ErrorKind::NotFound {
-        return Source::Absent;
+    match error {
+        ErrorKind::NotFound => Source::Absent,
+        _ => Source::Unreadable,
     }
-    Source::Unreadable
 }
 
 // A file that was opened. One that could not be read to its end is not cut short.
-fn opened(input: Input) -> Found
-    ensures { result ≡ opened_by input }
+fn opened(read: io::Result<usize>) -> Found
+    ensures { result ≡ opened_by read }
 {
-    match input {
-        Input::Bytes(n) => Found {
+    match read {
+        Ok(n) => Found {
             source: Source::Bytes,
             bytes: n,
         },
-        Input::Failed => Found {
+        Err(_) => Found {
             source: Source::Unreadable,
             bytes: 0,
         },
@@ -96,34 +83,27 @@ fn read_vectors(rt: &impl Files, buf: &mut [u8]) -> Found
     }
 }
 
+fn complain(rt: &HostRuntime, message: &[u8]) {
+    let _ = rt.stderr().write_all(message);
+}
+
 // Runs the card and writes all that it prints, or says that it could not.
 fn run(rt: &HostRuntime, source: Source, file: &[u8], card: &[u8]) {
     let mut out = [0u8; play::ROOM];
-    match play::run_card(source, file, card, &mut out) {
-        Written::Bytes(n) => {
-            if rt.stdout().write_all(&out[..n]).is_err() {
-                let _ = rt
-                    .stderr()
-                    .write_all(b"runner: the result could not be written\n");
-            }
-        }
-        // Cannot be: the output has its room.
-        Written::TooSmall => {}
+    // It is never too small: the output has its room.
+    if let Ok(n) = play::run_card(source, file, card, &mut out)
+        && rt.stdout().write_all(&out[..n]).is_err()
+    {
+        complain(rt, b"runner: the result could not be written\n");
     }
 }
 
 fn main(rt: HostRuntime) {
     let mut file = [0u8; ROOM];
     let found = read_vectors(&rt, &mut file);
-    let source = found.source;
-    let bytes = found.bytes;
     let mut card = [0u8; ROOM];
     match read_all(&mut rt.stdin(), &mut card) {
-        Input::Bytes(n) => run(&rt, source, &file[..bytes], &card[..n]),
-        Input::Failed => {
-            let _ = rt
-                .stderr()
-                .write_all(b"runner: the card could not be read\n");
-        }
+        Ok(n) => run(&rt, found.source, &file[..found.bytes], &card[..n]),
+        Err(_) => complain(&rt, b"runner: the card could not be read\n"),
     }
 }

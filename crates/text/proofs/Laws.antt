@@ -3,20 +3,22 @@ use Prim.Native.Nat.{ℕ, suc, ◌+◌, ◌-◌, ◌*◌, ◌^◌, ◌≤◌, �
 use mathlib.Core.Path.{◌≡◌, refl, ap, sym, ◌∙◌}
 use mathlib.Core.Bool.{Bool, true, false, ◌&&◌}
 use mathlib.Core.List.{List, [], ◌∷◌}
-use native.Mathlib.Numerals.{add-one}
+use native.Mathlib.Numerals.{add-one, one-add}
 use native.Mathlib.Omega.{arith}
 use native.Mathlib.Nat.{mul-le-mul_left, not-suc-le-zero, pow-suc, pow-le-pow_right}
-use borrow.Author.Tests.{eq-eqb, ne_eqb, lt-ltb, le-ltb, le-leb, lt-leb, ltb-true, ltb-false}
+use borrow.Author.Tests.{lt-ltb, le-ltb, ltb-true, ltb-false}
 use lib.Dec.{T, eqb, ltb, eqb→eq, lit<}
 use lib.ListN.{length, take, drop, get_or, drop_of_length-le, length-drop}
 use lib.Seq.{drop-cons, drop-drop, take-add, drop_at, length-take-le}
 use lib.Arith.{digits_lt}
 use Rattle.bits.proofs.Tests.{everywhere, within as at_each}
 use Rattle.text.specs.Digits.{digit}
-use Rattle.text.specs.Numbers.{number, decimal}
+use Rattle.text.specs.Numbers.{number}
 use Rattle.text.specs.Lines.{Line, ended, cut, onto, lines, begins, Entry, entry, missing, entry_of}
 use Rattle.text.specs.Inner.{line_length, line_end}
-use Rattle.text.specs.declared.Parsed.TheVariants.{Number, Nothing}
+use Rattle.std.specs.Prelude.{Some, None, cond, position, if◌then◌else◌, not}
+use Rattle.std.specs.List.{starts_with, position_or_len}
+use Rattle.std.proofs.lemmas.Option.{none-some}
 
 -- the digits by a range of bytes: at each of n bytes from low on, f is the digit
 pub digits_are : (f : ℕ → ℕ) (low n : ℕ) → T (everywhere (λ b. eqb (f b) (digit b)) low n) → (b : ℕ) → low ≤ b → b < low + n → f b ≡ digit b
@@ -26,10 +28,10 @@ module _ (base v i : ℕ) (t : List ℕ) where
   pub number_step : (d : ℕ) → i < length t → d ≡ digit (get_or t i 0) → d < base → number base v (drop i t) ≡ number base (v * base + d) (drop (i + 1) t)
   number_step d h e l = rw (add-one, drop-cons t i 0) (simp (sym e, lt-ltb _ _ l))
 
-  pub number_stop : (d : ℕ) → i < length t → d ≡ digit (get_or t i 0) → base ≤ d → number base v (drop i t) ≡ Nothing
+  pub number_stop : (d : ℕ) → i < length t → d ≡ digit (get_or t i 0) → base ≤ d → number base v (drop i t) ≡ None
   number_stop d h e l = rw (drop-cons t i 0) (simp (sym e, le-ltb _ _ l))
 
-  pub number_end : length t ≤ i → number base v (drop i t) ≡ Number v
+  pub number_end : length t ≤ i → number base v (drop i t) ≡ Some v
   number_end h = rw (drop_of_length-le t)
 
 -- i digits in a base up to 16, and one more
@@ -43,31 +45,11 @@ one_more i {v} {d} {base} h g k =
 pub eight : (i : ℕ) {v : ℕ} → i ≤ 8 → v < 16 ^ i → v < 16 ^ 8
 eight i h k = let m : 16 ^ i ≤ 16 ^ 8 = pow-le-pow_right (lit< tt) h in omega arith
 
-pub product : {v base : ℕ} → v < 16 ^ 8 → base ≤ 16 → v * base < 16 ^ 9
-product {v} h k = let m : v * _ ≤ v * 16 = mul-le-mul_left v k in omega arith
-
-module _ (t : List ℕ) where
-  pub decimal_long : 7 < length t → decimal t ≡ Nothing
-  decimal_long h = let k : 1 ≤ length t = omega arith in simp (le-leb _ _ k, lt-leb _ _ h)
-
-  pub decimal_one : 1 ≤ length t → length t ≤ 1 → decimal t ≡ number 10 0 t
-  decimal_one h k = let l : length t ≤ 7 = omega arith in simp (le-leb _ _ h, le-leb _ _ l, le-ltb _ _ k)
-
-  pub decimal_zero : 1 < length t → length t ≤ 7 → get_or t 0 0 ≡ 48 → decimal t ≡ Nothing
-  decimal_zero h k e = let j : 1 ≤ length t = omega arith in simp (le-leb _ _ j, le-leb _ _ k, lt-ltb _ _ h, eq-eqb _ _ e)
-
-  pub decimal_many : 1 < length t → length t ≤ 7 → (get_or t 0 0 ≡ 48 → ⊥) → decimal t ≡ number 10 0 t
-  decimal_many h k n = let j : 1 ≤ length t = omega arith in simp (le-leb _ _ j, le-leb _ _ k, lt-ltb _ _ h, ne_eqb _ _ n)
-
-module _ (i : ℕ) (k l : List ℕ) where
-  pub begins_at : i < length k → i < length l → begins (drop i k) (drop i l) ≡ (eqb (get_or k i 0) (get_or l i 0) && begins (drop (i + 1) k) (drop (i + 1) l))
-  begins_at h g = rw (add-one, drop-cons k i 0, drop-cons l i 0)
-
-  pub begins_short : i < length k → length l ≤ i → begins (drop i k) (drop i l) ≡ false
-  begins_short h g = rw (drop-cons k i 0, drop_of_length-le l)
-
-  pub begins_end : length k ≤ i → begins (drop i k) (drop i l) ≡ true
-  begins_end h = rw (drop_of_length-le k)
+-- the line begins with the key where the key's first bytes are the line's
+pub starts_is : (k l : List ℕ) → starts_with eqb l k ≡ begins k l
+starts_is [] l = refl
+starts_is (x ∷ k) [] = refl
+starts_is (x ∷ k) (b ∷ l) = ap (λ t. eqb x b && t) (starts_is k l)
 
 -- a line is no shorter than what it begins with
 and_right_true : (a : Bool) {b : Bool} → (a && b) ≡ true → b ≡ true
@@ -79,18 +61,33 @@ begins_length [] l e = omega arith
 begins_length (x ∷ k) [] e = absurd (let z : ◌≡◌ {A = ℕ} 0 1 = cc in omega arith)
 begins_length (x ∷ k) (b ∷ l) e = let h = begins_length k l (and_right_true (eqb x b) e) in omega arith
 
-module _ (i : ℕ) (s : List ℕ) where
-  pub length_feed : i < length s → get_or s i 0 ≡ 10 → line_length (drop i s) ≡ 0
-  unfolding line_length
-  length_feed h e = rw (drop-cons s i 0) (simp (eq-eqb _ _ e))
+-- the first line's length is the place of the first line feed, or the text's
+length_is : (s : List ℕ) → position_or_len (λ b. eqb b 10) s ≡ line_length s
+unfolding line_length
+length_is [] = refl
+length_is (b ∷ s) = length_cons (eqb b 10) (length_is s)
+  where
+    length_cons : (t : Bool) → position_or_len (λ b. eqb b 10) s ≡ line_length s → cond (not t) (1 + position_or_len (λ b. eqb b 10) s) 0 ≡ if t then 0 else suc (line_length s)
+    length_cons true e = refl
+    length_cons false e = rw one-add (ap suc e)
 
-  pub length_other : i < length s → (get_or s i 0 ≡ 10 → ⊥) → line_length (drop i s) ≡ suc (line_length (drop (i + 1) s))
-  unfolding line_length
-  length_other h n = rw (add-one, drop-cons s i 0) (simp (ne_eqb _ _ n))
+module _ (s : List ℕ) where
+  position_is : position (λ b. eqb b 10) s ≡ cond (ltb (line_length s) (length s)) (Some (line_length s)) None
+  position_is = ap (λ n. cond (ltb n (length s)) (Some n) None) (length_is s)
 
-  pub length_end : length s ≤ i → line_length (drop i s) ≡ 0
-  unfolding line_length
-  length_end h = rw (drop_of_length-le s)
+  pub fed : {n : ℕ} → position (λ b. eqb b 10) s ≡ Some n → (line_length s ≡ n) × (n < length s)
+  fed {n} e = at_test (ltb (line_length s) (length s)) refl (sym position_is ∙ e)
+    where
+      at_test : (t : Bool) → ltb (line_length s) (length s) ≡ t → cond t (Some (line_length s)) None ≡ Some n → (line_length s ≡ n) × (n < length s)
+      at_test true h e = let m : line_length s ≡ n = cc in let l : line_length s < length s = ltb-true _ _ h in (m, omega arith)
+      at_test false h e = absurd (none-some n e)
+
+  pub unfed : position (λ b. eqb b 10) s ≡ None → length s ≤ line_length s
+  unfed e = at_test (ltb (line_length s) (length s)) refl (sym position_is ∙ e)
+    where
+      at_test : (t : Bool) → ltb (line_length s) (length s) ≡ t → cond t (Some (line_length s)) None ≡ None → length s ≤ line_length s
+      at_test true h e = absurd (none-some (line_length s) (sym e))
+      at_test false h e = ltb-false _ _ h
 
 -- where a line feed stands, the first line ends there
 ended_cons : (b : ℕ) (s : List ℕ) (t : Bool) → eqb b 10 ≡ t → (line_length s < length s → lines s ≡ ended (take (line_length s) s) ∷ lines (drop (suc (line_length s)) s))
@@ -128,42 +125,39 @@ unfolding entry_of
 none_missing key none = refl
 none_missing key (only l) = refl
 
-module _ (key s : List ℕ) (at e : ℕ) (h : e ≡ line_end s at) where
-  pub no_line : length s ≤ e → entry_of key (lines (drop at s)) ≡ missing
+-- the first line of what stands at a place has n bytes
+module _ (key s : List ℕ) (at n : ℕ) (h : n ≡ line_length (drop at s)) where
+  pub no_line : length s ≤ at + n → entry_of key (lines (drop at s)) ≡ missing
   no_line k = none_missing key (lines_cut (drop at s) (simp length-drop (omega arith)))
 
-  module _ (k : e < length s) where
+  module _ (k : at + n < length s) where
     abbrev pub line : List ℕ
-    line = take (e - at) (drop at s)
+    line = take n (drop at s)
 
-    at_line : lines (drop at s) ≡ ended line ∷ lines (drop (e + 1) s)
+    at_line : lines (drop at s) ≡ ended line ∷ lines (drop (at + n + 1) s)
     at_line =
-        let n : e - at ≡ line_length (drop at s) = omega arith in
         let l : line_length (drop at s) < length (drop at s) = simp length-drop (omega arith) in
-        let m : at + suc (line_length (drop at s)) ≡ e + 1 = omega arith in
-        rw (lines_ended (drop at s) l) (simp (n, drop-drop, m))
+        let m : at + suc n ≡ at + n + 1 = omega arith in
+        rw (lines_ended (drop at s) l) (simp (sym h, drop-drop, m))
 
     pub other_line : begins key line ≡ false → entry_of key (lines (drop at s)) ≡ missing
     unfolding entry_of
     other_line b = rw at_line (simp b)
 
-    length_line : length line ≡ e - at
-    length_line = length-take-le (e - at) (drop at s) (simp length-drop (omega arith))
+    pub key_fits : begins key line ≡ true → length key ≤ n
+    key_fits b = omega (arith, begins_length key line b, length-take-le n (drop at s) (simp length-drop (omega arith)))
 
-    pub key_fits : begins key line ≡ true → at + length key ≤ e
-    key_fits b = let l = begins_length key line b in let m = length_line in omega arith
-
-    pub line_entry : begins key line ≡ true → entry_of key (lines (drop at s)) ≡ entry (take (e - (at + length key)) (drop (at + length key) s)) (lines (drop (e + 1) s))
+    pub line_entry : begins key line ≡ true → entry_of key (lines (drop at s)) ≡ entry (take (at + n - (at + length key)) (drop (at + length key) s)) (lines (drop (at + n + 1) s))
     unfolding entry_of
     line_entry b =
-        let f : at + length key ≤ e = key_fits b in
-        let m : e - at ≡ length key + (e - (at + length key)) = omega arith in
+        let f : length key ≤ n = key_fits b in
+        let m : n ≡ length key + (at + n - (at + length key)) = omega arith in
         let l : length key ≤ length (drop at s) = simp length-drop (omega arith) in
-        let d : drop (length key) line ≡ take (e - (at + length key)) (drop (at + length key) s) =
-        rw (m, take-add (length key) (e - (at + length key)) (drop at s))
+        let d : drop (length key) (take (length key + (at + n - (at + length key))) (drop at s)) ≡ take (at + n - (at + length key)) (drop (at + length key) s) =
+        rw (take-add (length key) (at + n - (at + length key)) (drop at s))
         (drop_at (take (length key) (drop at s)) _ (length key) (length-take-le (length key) (drop at s) l)
-        ∙ ap (take (e - (at + length key))) (drop-drop (length key) at s)) in
-        rw at_line (simp (b, d))
+        ∙ ap (take (at + n - (at + length key))) (drop-drop (length key) at s)) in
+        rw at_line (simp b (ap (λ t. entry t (lines (drop (at + n + 1) s))) (ap (λ i. drop (length key) (take i (drop at s))) m ∙ d)))
 
 -- the text after a key on the line at a place
 abbrev pub text_at : List ℕ → List ℕ → ℕ → List ℕ
@@ -175,13 +169,13 @@ pub data Stands (key s : List ℕ) (at : ℕ) : Entry → Type 0 where
   there : at + length key ≤ line_end s at → line_end s at < length s → Stands key s at (entry (text_at key s at) (lines (drop (line_end s at + 1) s)))
 
 module _ (key s : List ℕ) (at : ℕ) where
-  begun : (h : line_end s at < length s) (b : Bool) → begins key (line key s at (line_end s at) refl h) ≡ b → Stands key s at (entry_of key (lines (drop at s)))
-  begun h true e = rw (line_entry key s at (line_end s at) refl h e) (there (key_fits key s at (line_end s at) refl h e) h)
-  begun h false e = rw (other_line key s at (line_end s at) refl h e) nowhere
+  begun : (h : line_end s at < length s) (b : Bool) → begins key (line key s at (line_length (drop at s)) refl h) ≡ b → Stands key s at (entry_of key (lines (drop at s)))
+  begun h true e = rw (line_entry key s at _ refl h e) (let f = key_fits key s at _ refl h e in there (omega arith) h)
+  begun h false e = rw (other_line key s at _ refl h e) nowhere
 
   feed : (b : Bool) → ltb (line_end s at) (length s) ≡ b → Stands key s at (entry_of key (lines (drop at s)))
   feed true e = begun (ltb-true _ _ e) _ refl
-  feed false e = rw (no_line key s at (line_end s at) refl (ltb-false _ _ e)) nowhere
+  feed false e = rw (no_line key s at _ refl (ltb-false _ _ e)) nowhere
 
   pub entry_stands : Stands key s at (entry_of key (lines (drop at s)))
   entry_stands = feed _ refl

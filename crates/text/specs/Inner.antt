@@ -1,8 +1,7 @@
 -- Places in a text, for the contracts of what searches it: a place stands for the lines from it on.
-use Rattle.std.specs.Prelude.{ℕ, zero, suc, ◌+◌, ◌-◌, ◌≤◌, ◌<◌, ◌≡◌, List, [], ◌∷◌, length, take, drop, eqb, if◌then◌else◌}
+use Rattle.std.specs.Prelude.{ℕ, zero, suc, ◌+◌, ◌-◌, ◌≤◌, ◌<◌, ◌≡◌, List, [], ◌∷◌, length, take, drop, Option, Some, None, eqb, if◌then◌else◌}
 use Rattle.text.specs.Lines.{lines, Entry, entry, missing}
-use Rattle.text.specs.declared.Found.{Found}
-use Rattle.text.specs.declared.Found.TheVariants.{At, Missing}
+use Rattle.std.specs.declared.ops.Range.{Range}
 
 -- how many bytes stand before the first line feed
 unfoldable pub line_length : List ℕ → ℕ
@@ -19,11 +18,11 @@ after_lines s zero = 0
 after_lines s (suc n) = line_end s (after_lines s n) + 1
 
 -- what was found: an entry's text stands from one place to another, where its line feed is
-abbrev pub found_in : List ℕ → Found → Entry
-found_in s (At from end) = entry (take (end - from) (drop from s)) (lines (drop (end + 1) s))
-found_in s Missing = missing
+abbrev pub found_in : List ℕ → Option (Range ℕ) → Entry
+found_in s (Some r) = entry (take (r.end - r.start) (drop r.start s)) (lines (drop (r.end + 1) s))
+found_in s None = missing
 
 -- it stands on the line at a place, after the key
-abbrev pub Inside : List ℕ → List ℕ → ℕ → Found → Type 0
-Inside key s at (At from end) = (from ≡ at + length key) × (end ≡ line_end s at) × (from ≤ end) × (end < length s)
-Inside key s at Missing = Unit
+abbrev pub Inside : List ℕ → List ℕ → ℕ → Option (Range ℕ) → Type 0
+Inside key s at (Some r) = (r.start ≡ at + length key) × (r.end ≡ line_end s at) × (r.start ≤ r.end) × (r.end < length s)
+Inside key s at None = Unit

@@ -1,139 +1,83 @@
 #![tactic(auto)]
 // Digits, numbers and lines of text.
-ghost use Rattle.std.specs.Prelude.{◌≡◌, ◌+◌, ◌≤◌, ◌<◌, length, drop};
+ghost use Rattle.std.specs.Prelude.{◌≡◌, ◌==◌, ◌≤◌, ◌<◌, length, drop, position};
 ghost use Rattle.text.specs.Digits.{glyph as glyphOf, digit as digitOf};
 ghost use Rattle.text.specs.Numbers.{number as number_of, decimal as decimalOf, hexadecimal as hexadecimalOf};
-ghost use Rattle.text.specs.Lines.{begins as beginsOf, lines, entry_of};
-ghost use Rattle.text.specs.Inner.{line_end, found_in, Inside};
+ghost use Rattle.text.specs.Lines.{lines, entry_of};
+ghost use Rattle.text.specs.Inner.{found_in, Inside};
 
-// What a text says: a number, or nothing.
-#[derive(Clone, Copy)]
-pub enum Parsed {
-    Number(u32),
-    Nothing,
-}
-
-// Where a text was found: from a place up to another.
-#[derive(Clone, Copy)]
-pub enum Found {
-    At(usize, usize),
-    Missing,
-}
+use std::ops::Range;
 
 pub fn glyph(d: u8) -> u8
     requires { d < 16 }
     ensures { result ≡ glyphOf d }
 {
-    if d < 10 { 48 + d } else { 87 + d }
+    if d < 10 { b'0' + d } else { b'a' + (d - 10) }
 }
 
-// The digit that a byte is the character of, or 16.
+// The digit that a byte is the character of, or 16 and no Option: a schedule is a number for each byte (`schedule` in
+// card/specs/Card, `schedule_at` in its Answer).
 pub fn digit(b: u8) -> u8
     ensures { result ≡ digitOf b }
 {
-    if b < 48 {
-        return 16;
+    match b {
+        b'0'..=b'9' => b - b'0',
+        b'a'..=b'f' => b - b'a' + 10,
+        _ => 16,
     }
-    if b <= 57 {
-        return b - 48;
-    }
-    if b < 97 {
-        return 16;
-    }
-    if b <= 102 {
-        return b - 87;
-    }
-    16
 }
 
 // The number that all of a text is in a base.
-fn number(text: &[u8], base: u32) -> Parsed
+fn number(text: &[u8], base: u32) -> Option<u32>
     requires { (base ≤ 16) × (length text.now ≤ 8) }
     ensures { result ≡ number_of base 0 text.now }
 {
-    let mut v: u64 = 0;
-    let mut i = 0;
-    while i < text.len() {
-        let d = digit(text[i]) as u32;
+    let mut v = 0;
+    for b in text {
+        let d = u32::from(digit(*b));
         if base <= d {
-            return Parsed::Nothing;
+            return None;
         }
-        v = v * base as u64 + d as u64;
-        i += 1;
+        v = v * base + d;
     }
-    Parsed::Number(v as u32)
+    Some(v)
 }
 
-pub fn decimal(text: &[u8]) -> Parsed
+pub fn decimal(text: &[u8]) -> Option<u32>
     ensures { result ≡ decimalOf text.now }
 {
-    if text.len() < 1 {
-        return Parsed::Nothing;
+    match text.len() {
+        1 => number(text, 10),
+        2..=7 if text[0] != b'0' => number(text, 10),
+        _ => None,
     }
-    if 7 < text.len() {
-        return Parsed::Nothing;
-    }
-    if text.len() <= 1 {
-        return number(text, 10);
-    }
-    if text[0] == 48 {
-        return Parsed::Nothing;
-    }
-    number(text, 10)
 }
 
-pub fn hexadecimal(text: &[u8]) -> Parsed
+pub fn hexadecimal(text: &[u8]) -> Option<u32>
     ensures { result ≡ hexadecimalOf text.now }
 {
     if text.len() == 8 {
         number(text, 16)
     } else {
-        Parsed::Nothing
+        None
     }
 }
 
-// Whether a line begins with a key.
-fn begins(line: &[u8], key: &[u8]) -> bool
-    ensures { result ≡ beginsOf key.now line.now }
+// How many bytes stand before the first line feed.
+fn line_length(text: &[u8]) -> Option<usize>
+    ensures { result ≡ position (λ b. b == 10) text.now }
 {
-    let mut i = 0;
-    while i < key.len() {
-        if line.len() <= i {
-            return false;
-        }
-        if key[i] != line[i] {
-            return false;
-        }
-        i += 1;
-    }
-    true
-}
-
-// The place of the first line feed from a place on, or where the text ends.
-fn line_end(text: &[u8], at: usize) -> usize
-    ensures { result ≡ line_end text.now at }
-{
-    let mut i = at;
-    while i < text.len() {
-        if text[i] == 10 {
-            return i;
-        }
-        i += 1;
-    }
-    i
+    text.iter().position(|b| *b == b'\n')
 }
 
 // Where what follows a key stands on the line at a place.
-pub fn find_entry(text: &[u8], at: usize, key: &[u8]) -> Found
+pub fn find_entry(text: &[u8], at: usize, key: &[u8]) -> Option<Range<usize>>
     ensures { (found_in text.now result ≡ entry_of key.now (lines (drop at text.now))) × (Inside key.now text.now at result) }
 {
-    let end = line_end(text, at);
-    if text.len() <= end {
-        return Found::Missing;
+    let rest = text.get(at..)?;
+    let length = line_length(rest)?;
+    if !rest[..length].starts_with(key) {
+        return None;
     }
-    let line = &text[at..end];
-    if begins(line, key) {
-        return Found::At(at + key.len(), end);
-    }
-    Found::Missing
+    Some(at + key.len()..at + length)
 }

@@ -13,7 +13,8 @@ use Rattle.bits.proofs.Tests.{and_both, T_of}
 use Rattle.text.specs.Ascii.{ascii}
 use Rattle.text.specs.Lines.{Line, Entry, entry, missing, entry_of, lines}
 use Rattle.text.specs.Numbers.{hexadecimal}
-use Rattle.card.specs.Card.{Field, value, fault, Step, step, stop, followed, read, first, onward, Left, Verdict, good, every, max_card}
+use Rattle.card.specs.Card.{Field, value, fault, Step, step, stop, followed, read, first, onward, Left, Verdict, good, max_card}
+use Rattle.std.specs.List.{list_all}
 use Rattle.card.proofs.Laws.{every_get_d}
 use Rattle.card.proofs.Bounds.{never, Within, limited_value, none_good}
 use Rattle.isa.specs.Vectors.{vector_count, old_vectors}
@@ -43,14 +44,14 @@ by_line n (step v ls) k is e go = go v (record { next = n + 1; rest = ls }) (is 
 by_line n (stop f) k is e go = never e
 
 by_lines : {P : Type 0} (keys : List String) (left : Left) (k : List ℕ → Left → Verdict (List ℕ)) {vs : List ℕ} → address_lines keys left k ≡ good vs
-    → ((ws : List ℕ) (r : Left) → length ws ≡ length keys → T (every is_vector ws) → k ws r ≡ good vs → P) → P
+    → ((ws : List ℕ) (r : Left) → length ws ≡ length keys → T (list_all is_vector ws) → k ws r ≡ good vs → P) → P
 unfolding address_lines
 by_lines [] left k e go = go [] left refl tt e
 by_lines (key ∷ keys) left k e go =
     by_line left.next (first (ascii key) address left.rest) _ (λ v ls h. entry_vector (entry_of (ascii key) left.rest) h) e (λ v r t e.
-    by_lines keys r (λ ws. k (v ∷ ws)) e (λ ws r l u e. go (v ∷ ws) r (ap suc l) (and_both (is_vector v) (every is_vector ws) t u) e))
+    by_lines keys r (λ ws. k (v ∷ ws)) e (λ ws r l u e. go (v ∷ ws) r (ap suc l) (and_both (is_vector v) (list_all is_vector ws) t u) e))
 
-distinct_fits : (ws : List ℕ) (b : Bool) {vs : List ℕ} → are_distinct ws vector_count ≡ b → length ws ≡ vector_count → T (every is_vector ws) → distinct ws ≡ good vs → T (vectors_fit vs)
+distinct_fits : (ws : List ℕ) (b : Bool) {vs : List ℕ} → are_distinct ws vector_count ≡ b → length ws ≡ vector_count → T (list_all is_vector ws) → distinct ws ≡ good vs → T (vectors_fit vs)
 unfolding distinct
 distinct_fits ws true {vs} b l t e =
     let g : good ws ≡ good vs = rw b at e in

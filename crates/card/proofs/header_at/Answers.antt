@@ -5,8 +5,8 @@ use Rattle.card.proofs.header_at.Goals as goal
 
 pub returns-then-p-ne1 : goal.returns-then-p-ne1
 unfolding header_at
-returns-then-p-ne1 c = rw c.in-Line.is (simp (ne_eqb _ _ c.if-p-ne1.true))
+returns-then-p-ne1 c = simp (ne_eqb _ _ c.if-p-ne1.true)
 
 pub returns : goal.returns
 unfolding header_at
-returns c = rw c.in-Line.is (c.read_header.ensures ∙ simp (eq-eqb _ _ c.if-p-ne1.false))
+returns c = c.read_header.ensures ∙ simp (eq-eqb _ _ c.if-p-ne1.false)

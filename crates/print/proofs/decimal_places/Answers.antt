@@ -1,11 +1,8 @@
-use Rattle.print.proofs.Places.{seek_first, seek_next, seek_last}
+use Rattle.print.proofs.Places.{places_of, places_of_zero}
 use Rattle.print.proofs.decimal_places.Goals as goal
 
-pub loop-rest-init : goal.loop-rest-init
-loop-rest-init c = seek_first c.args.n
+pub returns-in-Some : goal.returns-in-Some
+returns-in-Some c = let m = c.in-Some in places_of c.args.n m.log m.ensures.power_le m.ensures.next_power_gt
 
-pub loop-rest-preserved : goal.loop-rest-preserved
-loop-rest-preserved c = let l = c.loop-rest in seek_next c.args.n l.k l.rest c.loop-rest-test.true l.invariant
-
-pub returns : goal.returns
-returns c = let l = c.loop-rest in seek_last c.args.n l.k l.rest c.loop-rest-test.false l.invariant
+pub returns-in-None : goal.returns-in-None
+returns-in-None c = places_of_zero c.args.n c.in-None.ensures.none

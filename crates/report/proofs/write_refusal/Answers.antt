@@ -1,11 +1,10 @@
-use Prim.Native.Nat.{◌≤◌}
-use native.Mathlib.Omega.{arith}
+use mathlib.Core.Path.{ap, ◌∙◌}
 use lib.ListN.{length}
-use Rattle.print.specs.Digits.{decimal}
-use Rattle.print.proofs.Stores.{put_then}
+use Rattle.std.proofs.Common.{rules}
+use native.Mathlib.Omega.{arith}
 use Rattle.report.specs.Answer.{refusal_room}
 use Rattle.report.specs.Result.{refusal_text}
-use Rattle.report.proofs.Room.{word_le, refusal_le, too_small, fits}
+use Rattle.report.proofs.Room.{refusal_le, too_small, fits}
 use Rattle.report.proofs.write_refusal.Goals as goal
 
 pub returns-then-out-lt-REFUSAL_ROOM : goal.returns-then-out-lt-REFUSAL_ROOM
@@ -14,31 +13,14 @@ returns-then-out-lt-REFUSAL_ROOM c =
     let e = too_small refusal_room (refusal_text a.number a.line) a.out.now (omega arith) in
     record { answered = e.0; left = e.1 }
 
-pub put_keyed_decimal-at-requires : goal.put_keyed_decimal-at-requires
-put_keyed_decimal-at-requires c =
-    let a = c.args in
-    let n : length (decimal a.number) ≤ 10 = word_le a.number (omega arith) in
-    let l : length (decimal a.line) ≤ 10 = word_le a.line (omega arith) in
-    omega arith
-
-pub put_keyed_decimal-at-requires-2 : goal.put_keyed_decimal-at-requires-2
-put_keyed_decimal-at-requires-2 c =
-    let a = c.args in
-    let n : length (decimal a.number) ≤ 10 = word_le a.number (omega arith) in
-    let l : length (decimal a.line) ≤ 10 = word_le a.line (omega arith) in
-    omega arith
-
-pub put_bytes-requires : goal.put_bytes-requires
-put_bytes-requires c =
-    let a = c.args in
-    let n : length (decimal a.number) ≤ 10 = word_le a.number (omega arith) in
-    let l : length (decimal a.line) ≤ 10 = word_le a.line (omega arith) in
+pub put_refusal-requires : goal.put_refusal-requires
+put_refusal-requires c =
+    let l = refusal_le c.args.number c.args.line (omega arith) (omega arith) in
+    let b = ap length c.new-w.ensures.bytes in
     omega arith
 
 pub returns : goal.returns
-unfolding refusal_text
 returns c =
-    let a = c.args in
-    let e = fits refusal_room (omega arith) (refusal_le a.number a.line (omega arith) (omega arith))
-    (put_then (put_then c.put_keyed_decimal-at.ensures c.put_keyed_decimal-at-2.ensures) c.put_bytes.ensures) in
-    record { answered = e.0; left = e.1 }
+    let l = refusal_le c.args.number c.args.line (omega arith) (omega arith) in
+    let e = fits refusal_room c.new-w.ensures.bytes c.new-w.ensures.start (omega arith) l c.put_refusal.ensures in
+    record { answered = rw c.len.ensures e.0; left = ◌∙◌ {b = c.put_refusal.new.w.out.now} (search rules) e.1 }

@@ -1,10 +1,10 @@
-use Prim.Native.Nat.{◌*◌, ◌≤◌}
+use mathlib.Core.Path.{ap, ◌∙◌}
+use lib.ListN.{length}
+use Rattle.std.proofs.Common.{rules}
 use native.Mathlib.Omega.{arith}
-use lib.ListN.{length, length-append}
-use Rattle.print.proofs.Stores.{put_then}
-use Rattle.report.specs.Answer.{core_room, result_room}
-use Rattle.report.specs.Result.{cores, core_texts, result_text}
-use Rattle.report.proofs.Room.{cores_le, too_small, fits}
+use Rattle.report.specs.Answer.{result_room}
+use Rattle.report.specs.Result.{cores, result_text}
+use Rattle.report.proofs.Room.{result_le, too_small, fits}
 use Rattle.report.proofs.write_result.Goals as goal
 
 pub returns-then-out-lt-ENDS_ROOM : goal.returns-then-out-lt-ENDS_ROOM
@@ -13,29 +13,16 @@ returns-then-out-lt-ENDS_ROOM c =
     let e = too_small (result_room (cores a.states.now)) (result_text a.counts a.states.now) a.out.now (omega arith) in
     record { answered = e.0; left = e.1 }
 
-pub returns-then-out-cores : goal.returns-then-out-cores
-returns-then-out-cores c =
+pub put_result-requires : goal.put_result-requires
+put_result-requires c =
     let a = c.args in
-    let e = too_small (result_room (cores a.states.now)) (result_text a.counts a.states.now) a.out.now (omega arith) in
-    record { answered = e.0; left = e.1 }
-
-pub put_cores-at-requires : goal.put_cores-at-requires
-put_cores-at-requires c =
-    let v = c.args.states.now in
-    let h : length (core_texts 0 (cores v) v) ≤ cores v * core_room = cores_le 0 (cores v) v (omega arith) (λ i. omega (arith, c.type_inv.states i)) in
-    omega arith
-
-pub put_bytes-requires : goal.put_bytes-requires
-put_bytes-requires c =
-    let v = c.args.states.now in
-    let h : length (core_texts 0 (cores v) v) ≤ cores v * core_room = cores_le 0 (cores v) v (omega arith) (λ i. omega (arith, c.type_inv.states i)) in
+    let l = result_le a.counts a.states.now (omega arith) (omega arith) (omega arith) (omega arith) (λ i. omega (arith, c.type_inv.states i)) in
+    let b = ap length c.new-w.ensures.bytes in
     omega arith
 
 pub returns : goal.returns
-unfolding result_text
 returns c =
-    let v = c.args.states.now in
-    let h : length (core_texts 0 (cores v) v) ≤ cores v * core_room = cores_le 0 (cores v) v (omega arith) (λ i. omega (arith, c.type_inv.states i)) in
-    let e = fits (result_room (cores v)) (omega arith) (simp length-append (omega arith))
-    (put_then (put_then c.put_counts-at.ensures.0 c.put_cores-at.ensures) c.put_bytes.ensures) in
-    record { answered = e.0; left = e.1 }
+    let a = c.args in
+    let l = result_le a.counts a.states.now (omega arith) (omega arith) (omega arith) (omega arith) (λ i. omega (arith, c.type_inv.states i)) in
+    let e = fits (result_room (cores a.states.now)) c.new-w.ensures.bytes c.new-w.ensures.start (omega arith) l c.put_result.ensures in
+    record { answered = rw c.len.ensures e.0; left = ◌∙◌ {b = c.put_result.new.w.out.now} (search rules) e.1 }

@@ -1,25 +1,25 @@
-use Prim.Native.Nat.{◌-◌}
+use Prim.Native.Nat.{◌+◌, ◌-◌}
 use native.Mathlib.Omega.{arith}
 use Rattle.text.specs.Digits.{digit}
 use Rattle.text.proofs.Laws.{digits_are}
 use Rattle.text.proofs.digit.Goals as goal
 
-pub returns-then-b-lt48 : goal.returns-then-b-lt48
+pub returns-in-48-to-57 : goal.returns-in-48-to-57
 unfolding digit
-returns-then-b-lt48 c = digits_are (λ _. 16) 0 48 tt c.args.b (omega arith) (omega arith)
+returns-in-48-to-57 c = digits_are (λ b. b - 48) 48 10 tt c.args.b (omega arith) (omega arith)
 
-pub returns-then-b-le57 : goal.returns-then-b-le57
+pub returns-in-97-to-102 : goal.returns-in-97-to-102
 unfolding digit
-returns-then-b-le57 c = digits_are (λ b. b - 48) 48 10 tt c.args.b (omega arith) (omega arith)
+returns-in-97-to-102 c = digits_are (λ b. b - 97 + 10) 97 6 tt c.args.b (omega arith) (omega arith)
 
-pub returns-then-b-lt97 : goal.returns-then-b-lt97
+pub returns-in_default : goal.returns-in_default
 unfolding digit
-returns-then-b-lt97 c = digits_are (λ _. 16) 58 39 tt c.args.b (omega arith) (omega arith)
+returns-in_default c = digits_are (λ _. 16) 0 48 tt c.args.b (omega arith) (omega arith)
 
-pub returns-then-b-le102 : goal.returns-then-b-le102
+pub returns-in_default-2 : goal.returns-in_default-2
 unfolding digit
-returns-then-b-le102 c = digits_are (λ b. b - 87) 97 6 tt c.args.b (omega arith) (omega arith)
+returns-in_default-2 c = digits_are (λ _. 16) 58 39 tt c.args.b (omega arith) (omega arith)
 
-pub returns : goal.returns
+pub returns-in_default-3 : goal.returns-in_default-3
 unfolding digit
-returns c = digits_are (λ _. 16) 103 153 tt c.args.b (omega arith) (omega arith)
+returns-in_default-3 c = digits_are (λ _. 16) 103 153 tt c.args.b (omega arith) (omega arith)

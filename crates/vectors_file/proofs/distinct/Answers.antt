@@ -11,10 +11,10 @@ unfolding distinct
 returns-in-Some c =
     let seven : length c.args.list ≡ vector_count = omega arith in
     let r = repeats_at c.args.list vector_count seven (sym c.first_repeat.ensures.0 ∙ c.in-Some.is) in
-    c.bad.ensures ∙ simp (r.0, r.1)
+    simp (c.at.ensures.0, c.at.ensures.1, r.0, r.1)
 
 pub returns-in-None : goal.returns-in-None
 unfolding distinct
 returns-in-None c =
     let seven : length c.args.list ≡ vector_count = omega arith in
-    c.good.ensures ∙ simp (repeats_nowhere c.args.list vector_count seven (sym c.first_repeat.ensures.0 ∙ c.in-None.is))
+    simp (repeats_nowhere c.args.list vector_count seven (sym c.first_repeat.ensures.0 ∙ c.in-None.is))
