@@ -20,12 +20,10 @@ use Rattle.engine.specs.declared.answer.Answer.{Answer}
 use Rattle.engine.specs.declared.answer.Answer.TheVariants.{Ran, Refused}
 use Rattle.engine.proofs.Answers.{fast_runnable}
 use Rattle.text.proofs.Stores.{take_sets}
-use Rattle.card.specs.Card.{Verdict, good, card_says}
+use Rattle.card.specs.Card.{good, card_says}
 use Rattle.card.specs.Answer.{refusal, told, answered, job_at, Bounds}
-use Rattle.card.specs.declared.Cause.{Cause}
 use Rattle.card.specs.declared.Job as code
-use Rattle.card.specs.declared.Reading.{Reading}
-use Rattle.card.specs.declared.Reading.TheVariants.{Good, Bad}
+use Rattle.card.specs.declared.Refused as why
 use Rattle.card.proofs.Bounds.{good_says as card-says, bad_says}
 use Rattle.job.specs.Job.{image_length, memory_of, image_after}
 use Rattle.job.specs.Answer.{ReadJob}
@@ -37,10 +35,7 @@ use Rattle.report.specs.declared.TooSmall.{TooSmall}
 use Rattle.report.proofs.Room.{too_small}
 use Rattle.vector_list.specs.Rules.{vectors_fit}
 use Rattle.vectors_file.specs.File.{File, vectors_say}
-use Rattle.vectors_file.specs.Answer.{told_of, told as told_vectors, answered as answered_vectors}
-use Rattle.vectors_file.specs.declared.Reading as vectors
-use Rattle.vectors_file.specs.declared.Outcome.{Outcome}
-use Rattle.vectors_file.specs.declared.Outcome.TheVariants as outcome
+use Rattle.vectors_file.specs.Answer.{told as told_vectors}
 use Rattle.vectors_file.proofs.Laws.{good_fits}
 use Rattle.play.specs.Output.{run_text, job_text, verdict_text, card_text, output_of, output}
 use Rattle.play.specs.Answer.{output_room, Printed}
@@ -84,15 +79,15 @@ module _ {l : Lent} {cache cache' : List ℕ} {x : Left} {r : Answer} (f : FastA
 
 -- ---- a card that was read
 
-module _ {card image image' : List ℕ} {r : Reading} (l : length image ≡ image_length) (h : ReadJob card image image' r) where
+module _ {card image image' : List ℕ} {r : Result code.Job why.Refused} (l : length image ≡ image_length) (h : ReadJob card image image' r) where
   says : told r ≡ answered card (card_says card)
   says = h.says ∙ ap (answered card) (right_image card image l)
 
-  pub bad_output : (cause : Cause) (line : ℕ) → r ≡ Bad cause line → (vectors : List ℕ) → refusal_text (refusal cause) line ≡ card_text card vectors
+  pub bad_output : (x : why.Refused) → r ≡ Err x → (vectors : List ℕ) → refusal_text (refusal x.cause) x.line ≡ card_text card vectors
   unfolding card_text
-  bad_output cause line e vectors = ap (verdict_text (job_text vectors)) (sym (bad_says card (ap told (sym e) ∙ says)))
+  bad_output x e vectors = ap (verdict_text (job_text vectors)) (sym (bad_says card (ap told (sym e) ∙ says)))
 
-  module _ (j : code.Job) (e : r ≡ Good j) where
+  module _ (j : code.Job) (e : r ≡ Ok j) where
     good_says : card_says card ≡ good (job_at card j)
     good_says = card-says card j (ap told (sym e) ∙ says)
 
@@ -118,21 +113,18 @@ printed_as {out = out} {out' = out'} {r = r} e p = subst (λ (t : List ℕ). Pri
 
 -- ---- a file of vectors that was read
 
-module _ (file : File) (r : vectors.Reading) (h : told_vectors r ≡ answered_vectors (vectors_say file)) where
-  file_says : {o : Outcome} → r.outcome ≡ o → vectors_say file ≡ told_of o r.list
-  file_says e = sym (ap (λ (p : Verdict (List ℕ) × List ℕ). p.0) h) ∙ ap (λ (o : Outcome). told_of o r.list) e
-
-  pub bad_list_output : (cause : Cause) (line : ℕ) → r.outcome ≡ outcome.Bad cause line → (card : List ℕ) → refusal_text (refusal cause) line ≡ output file card
+module _ (file : File) (r : Result (List ℕ) why.Refused) (h : told_vectors r ≡ vectors_say file) where
+  pub bad_list_output : (x : why.Refused) → r ≡ Err x → (card : List ℕ) → refusal_text (refusal x.cause) x.line ≡ output file card
   unfolding output
-  bad_list_output cause line e card = ap (λ v. output_of v (card_says card)) (sym (file_says e))
+  bad_list_output x e card = ap (λ v. output_of v (card_says card)) (ap told_vectors (sym e) ∙ h)
 
-  module _ (e : r.outcome ≡ outcome.Good) where
-    list_says : vectors_say file ≡ good r.list
-    list_says = file_says e
+  module _ (list : List ℕ) (e : r ≡ Ok list) where
+    list_says : vectors_say file ≡ good list
+    list_says = sym (ap told_vectors (sym e) ∙ h)
 
-    pub list_fits : T (vectors_fit r.list)
-    list_fits = good_fits file r.list list_says
+    pub list_fits : T (vectors_fit list)
+    list_fits = good_fits file list list_says
 
-    pub list_output : (card : List ℕ) → card_text card r.list ≡ output file card
+    pub list_output : (card : List ℕ) → card_text card list ≡ output file card
     unfolding output card_text
     list_output card = ap (λ v. output_of v (card_says card)) (sym list_says)

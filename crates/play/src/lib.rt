@@ -11,11 +11,11 @@ ghost use Rattle.play.specs.Output.{run_text, job_text, card_text, output};
 ghost use Rattle.play.specs.Answer.{output_room, Printed};
 ghost use Rattle.play.specs.Inner.{Ready};
 
-use card::{Cause, Job, Reading};
+use card::{Job, Refused};
 use effect::state;
 use engine::answer::Answer;
 use report::TooSmall;
-use vectors_file::{Outcome, Source};
+use vectors_file::Source;
 
 const CORES: usize = card::table::MAX_CORES as usize;
 
@@ -32,12 +32,11 @@ const STEPS: usize = card::table::MAX_STEPS as usize;
 // No part of a card's memory is read-only.
 const NO_LIMIT: u32 = 0;
 
-fn print_refusal(out: &mut [u8], cause: Cause, line: u32) -> Result<usize, TooSmall>
+fn print_refusal(out: &mut [u8], refused: Refused) -> Result<usize, TooSmall>
     requires { output_room ≤ length out.old }
-    ensures { Printed (refusal_text (refusal cause) line) out.old out.new result }
+    ensures { Printed (refusal_text (refusal refused.cause) refused.line) out.old out.new result }
 {
-    let number = card::number(cause);
-    report::write_refusal(out, number, line)
+    report::write_refusal(out, u32::from(refused.cause), refused.line)
 }
 
 // A fast run of what it does not refuse, and its result.
@@ -97,23 +96,20 @@ fn print_card(vectors: &[u32], card: &[u8], out: &mut [u8]) -> Result<usize, Too
 {
     let mut image = [0u8; job::IMAGE];
     match job::read_job(card, &mut image) {
-        Reading::Good(job) => print_job(vectors, card, job, &mut image, out),
-        Reading::Bad(cause, line) => print_refusal(out, cause, line),
+        Ok(job) => print_job(vectors, card, job, &mut image, out),
+        Err(refused) => print_refusal(out, refused),
     }
 }
 
 // What the runner prints for a file of vectors and a card; or that the bytes lent are too few for the longest output, and nothing is written.
-pub fn run_card(source: Source, file: &[u8], card: &[u8], out: &mut [u8]) -> Result<usize, TooSmall>
-    ensures { Printed (output (file_of source file.now) card.now) out.old out.new result }
+pub fn run_card(source: Source<'_>, card: &[u8], out: &mut [u8]) -> Result<usize, TooSmall>
+    ensures { Printed (output (file_of source.entry) card.now) out.old out.new result }
 {
     if out.len() < ROOM {
         return Err(TooSmall);
     }
-    let reading = vectors_file::read(source, file);
-    let outcome = reading.outcome;
-    let list = reading.list;
-    match outcome {
-        Outcome::Good => print_card(&list, card, out),
-        Outcome::Bad(cause, line) => print_refusal(out, cause, line),
+    match vectors_file::read(source) {
+        Ok(list) => print_card(&list, card, out),
+        Err(refused) => print_refusal(out, refused),
     }
 }

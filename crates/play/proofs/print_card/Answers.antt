@@ -14,14 +14,14 @@ slice_bounds-print_job-end c = sym (c.read_job.auto.image ∙ length_zeros image
 pub print_job-requires : goal.print_job-requires
 print_job-requires c =
     let read = c.read_job in
-    record { ready = ready (length_zeros image_length) read.ensures c.in-Good.job c.in-Good.is (read.auto.image ∙ length_zeros image_length); output_room_in_bounds = omega arith; vectors_listed = c.requires.vectors_listed }
+    record { ready = ready (length_zeros image_length) read.ensures c.in-Ok.job c.in-Ok.is (read.auto.image ∙ length_zeros image_length); output_room_in_bounds = omega arith; vectors_listed = c.requires.vectors_listed }
 
-pub returns-in-Good : goal.returns-in-Good
-returns-in-Good c =
+pub returns-in-Ok : goal.returns-in-Ok
+returns-in-Ok c =
     let read = c.read_job in
-    printed_as (good_output (length_zeros image_length) read.ensures c.in-Good.job c.in-Good.is _) c.print_job.ensures
+    printed_as (good_output (length_zeros image_length) read.ensures c.in-Ok.job c.in-Ok.is _) c.print_job.ensures
 
-pub returns-in-Bad : goal.returns-in-Bad
-returns-in-Bad c =
+pub returns-in-Err : goal.returns-in-Err
+returns-in-Err c =
     let read = c.read_job in
-    printed_as (bad_output (length_zeros image_length) read.ensures c.in-Bad.cause c.in-Bad.line c.in-Bad.is _) c.print_refusal.ensures
+    printed_as (bad_output (length_zeros image_length) read.ensures c.in-Err.refused c.in-Err.is _) c.print_refusal.ensures

@@ -10,5 +10,5 @@ pub returns : goal.returns
 returns c =
     let a = c.args in
     let w = c.write_refusal in
-    printed_as (ap (λ (n : ℕ). refusal_text n a.line) c.number-number.ensures)
+    printed_as (ap (λ (n : ℕ). refusal_text n a.refused.line) c.from.ensures)
     (printed refusal_room _ _ _ _ c.requires (omega arith) w.ensures.answered w.ensures.left w.auto.out)
