@@ -110,6 +110,6 @@ pub fn run_card(source: Source<'_>, card: &[u8], out: &mut [u8]) -> Result<usize
     }
     match vectors_file::read(source) {
         Ok(list) => print_card(&list, card, out),
-        Err(refused) => print_refusal(out, refused),
+        Err(bad_file) => print_refusal(out, bad_file),
     }
 }
