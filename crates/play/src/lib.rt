@@ -61,7 +61,13 @@ fn print_run(
 }
 
 // A good card's job, with its memory laid out in the image: all lines are low, and the run starts from an empty decode cache.
-fn print_job(vectors: &[u32], card: &[u8], job: Job, image: &mut [u8], out: &mut [u8]) -> Result<usize, TooSmall>
+fn print_job(
+    vectors: &[u32],
+    card: &[u8],
+    job: Job,
+    image: &mut [u8],
+    out: &mut [u8],
+) -> Result<usize, TooSmall>
     requires ready { Ready card.now job image.old }
     requires output_room_in_bounds { output_room ≤ length out.old }
     requires vectors_listed { T (vectors_fit vectors.now) }
