@@ -5,7 +5,8 @@ ghost use Rattle.text.specs.Ascii.{ascii};
 ghost use Rattle.text.specs.Lines.{lines};
 ghost use Rattle.card.specs.Card.{first, word, card_says, max_card};
 ghost use Rattle.card.specs.Answer.{refusal, told, and_then, answered};
-ghost use Rattle.card.specs.Inner.{step_in, Ahead, standing, start_of, header_from, header_at, word_lines_of, last_lines};
+ghost use Rattle.card.specs.Inner.{step_in, Ahead, standing, start_of};
+ghost use Rattle.card.specs.Inner.{header_from, header_at, word_lines_of, last_lines};
 
 use crate::table::{CORES, ENTRY, LINES, MEMORY, SCHEDULE, SCHEDULE_KEY, SR, STEPS, WORDS};
 use crate::value::WORD;
@@ -18,7 +19,8 @@ pub const MAX_CARD: usize = 65536;
 // The number of the first w line.
 const WORD_LINES: u32 = LINES as u32 + 1;
 
-// Why a card or a file of vectors is refused, document 01's 1, 9 and 10: the image's length, a line's form, a value's limits.
+// Why a card or a file of vectors is refused, document 01's 1, 9 and 10: the image's length, a line's form, a value's
+// limits.
 #[derive(Clone, Copy)]
 pub enum Cause {
     Image,
@@ -58,7 +60,8 @@ impl Cause {
     }
 }
 
-// A good card's job. The schedule's digits and the first w line are given by their places in the card.
+// A good card's job. The schedule's digits and the first w line are given by their places in the card and not by
+// slices: `placed` (specs/Answer) says where they stand, also where the same bytes stand elsewhere.
 #[derive(Clone, Copy, Default)]
 pub struct Job {
     pub cores: u32,

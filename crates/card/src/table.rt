@@ -38,7 +38,8 @@ pub const SCHEDULE_KEY: usize = 9;
 
 pub const LINES: usize = 7;
 
-// The lines' places in the table.
+// The lines' places in the table. Numbers and no enum: they are indices, and `header_from` (specs/Inner) counts the
+// lines.
 pub const CORES: usize = 0;
 
 pub const MEMORY: usize = 1;

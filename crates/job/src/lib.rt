@@ -40,7 +40,8 @@ fn lay_out(card: &[u8], job: Job, image: &mut [u8])
     fill(card, job.image, job.words, image);
 }
 
-// The words of n lines from a place on, into the image from address 0.
+// The words of n lines from a place on, into the image from address 0. No twin of `card::word_lines`, which answers a
+// bad line with its number; here the lines are good.
 fn fill(card: &[u8], from: usize, n: u32, image: &mut [u8])
     requires { (length image.old ≡ image_length) × (4 * length (words_from n (lines (drop from card.now))) ≤ image_length) }
     ensures { image.new ≡ filled image.old 0 (words_from n (lines (drop from card.now))) }

@@ -1,3 +1,2 @@
--- Laws of the runner's buffers, and of the file of vectors that is read into one.
+-- Laws of the runner's buffers.
 pub mod Parts
-pub mod Files

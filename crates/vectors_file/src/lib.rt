@@ -13,7 +13,8 @@ use card::value::{Limits, Rule};
 use card::{Cause, Refused};
 use isa::vectors::COUNT;
 
-// How the file was found: its bytes were read, there is none, or it is there and cannot be read.
+// How the file was found: its bytes were read, there is none, or it is there and cannot be read. A Result of an Option
+// would be no plainer: the cases are those of `File` (specs/File).
 #[derive(Clone, Copy)]
 pub enum Source<'a> {
     Bytes(&'a [u8]),
@@ -38,8 +39,8 @@ const ADDRESS: Rule = Rule::Hexadecimal(Limits {
     multiple: 4,
 });
 
-// The list; or why the file is refused and at which line. With no such file the old list holds. One that cannot be read is
-// refused, and not passed over.
+// The list; or why the file is refused and at which line. With no such file the old list holds. One that cannot be read
+// is refused, and not passed over.
 #[tactic(auto, unfolding(crate::specs::File::vectors_say))]
 pub fn read(source: Source<'_>) -> Result<[u32; COUNT], Refused>
     ensures { told result ≡ vectors_say (file_of source.entry) }
