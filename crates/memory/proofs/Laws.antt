@@ -6,7 +6,6 @@ use mathlib.Core.Path.{◌≡◌, refl, sym, ap, ap₂, ◌∙◌}
 use Prim.Native.Nat.{ℕ, zero, suc, ◌+◌, ◌*◌, ◌/◌, ◌%◌, ◌^◌, ◌<◌, ◌≤◌}
 use native.Mathlib.Nat.{mod-lt, mod-one, pow-le-pow_right, pow-succ'}
 use native.Mathlib.Omega.{arith}
-use borrow.Author.Rules.{rules}
 use lib.Dec.{ltb}
 use borrow.Author.Tests.{lt-ltb, le-ltb, ltb-false}
 use lib.Arith.{mod-mul, digits_lt}
@@ -102,23 +101,6 @@ pub width_of : (w : declared.Width) → Width (bytes w)
 width_of Byte = byte_wide
 width_of Half = half_wide
 width_of Word = word_wide
-
--- a width in a form that `omega` reads
-pub record Bounds (n : ℕ) : Type 0 where
-  pub positive : 0 < n
-  pub at_most_word : n ≤ 4
-  pub not_three : n ≡ 3 → ⊥
-
-pub bounds : {n : ℕ} → Width n → Bounds n
-bounds byte_wide = search rules
-bounds half_wide = search rules
-bounds word_wide = search rules
-
--- a byte is eight bits
-pub bytes_bits : {n : ℕ} → Width n → 256 ^ n ≡ 2 ^ (8 * n)
-bytes_bits byte_wide = refl
-bytes_bits half_wide = refl
-bytes_bits word_wide = refl
 
 -- an aligned access lies in one word
 pub aligned_in_word : {n : ℕ} → Width n → (at : ℕ) → at % n ≡ 0 → at % 4 + n ≤ 4

@@ -11,6 +11,6 @@ returns c =
     let w = c.args.w in
     let s = c in
     let k = s.kind_of-k.ensures.0 in
-    let t = s.parts_of.result.shape in
+    let t = s.parts_of.result.1 in
     let d = subst (λ (n : ℕ). Describes n t) k (describes _ (search rules) s.parts_of.ensures.1) in
     c.pack.ensures ∙ ap (packed s.kind_of-k.result) c.fields.ensures.0 ∙ ap (λ n. packed n (fields_in t w)) k ∙ own_entry w t d
