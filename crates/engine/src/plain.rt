@@ -4,7 +4,8 @@ ghost use Rattle.engine.specs.Answer.{PlainAnswer};
 
 use crate::answer::Answer;
 
-// The plain run: answers its counts, or the first rule that is broken, and then nothing lent is written.
+// The plain run: answers its counts, or the first rule that is broken, and then nothing lent is written. Its
+// parameters are the C interface's.
 pub fn plain_run(
     memory: &mut [u8],
     states: &mut [u32],

@@ -1,5 +1,6 @@
 #![tactic(auto)]
 // What programs in other languages call, by the crate host_c: plain numbers in and out.
+// Names and parameters are the C interface's (include/or1k.h).
 ghost use Rattle.std.specs.Prelude.{◌≡◌};
 ghost use Rattle.isa.specs.InstructionSet.{decode};
 ghost use Rattle.refusal.specs.Lent.{lent, left};

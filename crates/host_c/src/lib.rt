@@ -1,5 +1,6 @@
 #![tactic(auto)]
-// The static library for C, C++ and Rust programs: each function of the crate host under its name in C, with its clauses (include/or1k.h).
+// The static library for C, C++ and Rust programs: each function of the crate host under its name in C, with its
+// clauses (include/or1k.h). The C interface needs these twins.
 ghost use Rattle.std.specs.Prelude.{◌≡◌};
 ghost use Rattle.isa.specs.InstructionSet.{decode};
 ghost use Rattle.refusal.specs.Lent.{lent, left};

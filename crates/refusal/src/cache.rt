@@ -16,5 +16,8 @@ pub fn entries_right(memory: &[u8], cache: &[u64]) -> bool
     requires { length cache.now ≡ length memory.now / 4 }
     ensures { (board : Board) → result ≡ entries_right board memory.now cache.now }
 {
-    cache.iter().enumerate().all(|(k, &entry)| entry_right(memory, k, entry))
+    cache
+        .iter()
+        .enumerate()
+        .all(|(k, &entry)| entry_right(memory, k, entry))
 }
