@@ -76,6 +76,7 @@ fn entry(
     if !was_shared(core, counts) {
         return counts;
     }
+    // What core 0 completed lies inside memory, so its form was found.
     let lead = Lead {
         form: form.unwrap(),
         before,

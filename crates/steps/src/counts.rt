@@ -37,7 +37,7 @@ impl Counts {
             Turn::Unfetched(outcome) => Counts {
                 executed: self.executed + 1,
                 raised: self.raised + raised_by(outcome),
-                reused: self.reused,
+                ..self
             },
             Turn::Instruction(outcome, reused) => Counts {
                 executed: self.executed + 1,
