@@ -1,16 +1,16 @@
 -- Laws of what is stored one after another: the words of memory, schedules and states. Assumes nothing.
 use Prim.Native.Nat.{ℕ, zero, suc, ◌+◌, ◌-◌, ◌*◌, ◌/◌, ◌%◌, ◌^◌, ◌≤◌, ◌<◌}
 use mathlib.Core.Path.{◌≡◌, refl, ap, sym, ◌∙◌}
-use mathlib.Core.Bool.{Bool, true}
+use mathlib.Core.Bool.{Bool, true, false}
 use mathlib.Core.List.{List, [], ◌∷◌, ◌++◌, map, append_assoc}
 use native.Mathlib.Numerals.{add-one}
 use native.Mathlib.Omega.{arith}
 use native.Mathlib.Nat.{not-suc-le-zero, mod-lt}
-use borrow.Author.Tests.{eq-eqb, ne_eqb}
-use lib.Dec.{T}
-use lib.ListN.{length, take, drop, get_or, set, replicate, length-append, length-drop, length-replicate, length-map}
+use borrow.Author.Tests.{eq-eqb, ne_eqb, ltb-true, ltb-false}
+use lib.Dec.{T, ltb}
+use lib.ListN.{get_or-append, length, take, drop, get_or, set, replicate, length-append, length-drop, length-replicate, length-map}
 use borrow.Rule.Slice.PartMut.{put_mid}
-use lib.Seq.{sets, sets-eq, drop-drop, length-take-le, set-append_left}
+use lib.Seq.{get_or-append-add, sets, sets-eq, drop-drop, length-take-le, set-append_left}
 use Rattle.std.proofs.lemmas.List.{get_or-map}
 use Rattle.std.proofs.lemmas.List.Folds.{list_all-append}
 use Rattle.bits.proofs.Tests.{and_both}
@@ -130,6 +130,25 @@ pub length_states : (entry sr n : ℕ) → length (reset_states entry sr n) ≡ 
 unfolding reset_states
 length_states entry sr zero = refl
 length_states entry sr (suc n) = let e = length_states entry sr n in simp (length-append, e) (omega arith)
+
+-- each core's state is the reset state
+pub word_reset : (entry sr n i : ℕ) → i < n * state_words → get_or (reset_states entry sr n) i 0 ≡ get_or (reset_state entry sr) (i % state_words) 0
+unfolding reset_states
+word_reset entry sr zero i h = absurd (omega arith)
+word_reset entry sr (suc n) i h = reset_or (ltb i (length (reset_states entry sr n))) refl (word_reset entry sr n i)
+  where
+    reset_or : (b : Bool) → ltb i (length (reset_states entry sr n)) ≡ b
+        → (i < n * state_words → get_or (reset_states entry sr n) i 0 ≡ get_or (reset_state entry sr) (i % state_words) 0)
+        → get_or (reset_states entry sr n ++ reset_state entry sr) i 0 ≡ get_or (reset_state entry sr) (i % state_words) 0
+    reset_or true e ih =
+        let k : i < length (reset_states entry sr n) = ltb-true _ _ e in
+        let l : length (reset_states entry sr n) ≡ n * state_words = length_states entry sr n in
+        get_or-append (reset_states entry sr n) (reset_state entry sr) 0 i k ∙ ih (omega arith)
+    reset_or false e ih =
+        let k : length (reset_states entry sr n) ≤ i = ltb-false _ _ e in
+        let l : length (reset_states entry sr n) ≡ n * state_words = length_states entry sr n in
+        let m : i ≡ length (reset_states entry sr n) + i % state_words = omega arith in
+        ap (λ j. get_or (reset_states entry sr n ++ reset_state entry sr) j 0) m ∙ get_or-append-add (reset_states entry sr n) (reset_state entry sr) (i % state_words) 0
 
 -- one state more
 pub reset_step : (l : List ℕ) (entry sr i : ℕ) → sets (sets l 0 (reset_states entry sr i)) (i * state_words) (reset_state entry sr) ≡ sets l 0 (reset_states entry sr (i + 1))

@@ -4,9 +4,7 @@ use Rattle.std.specs.Prelude.{Result, Ok, Err, IfOk, List, ◌≡◌, ℕ, ◌+�
 use Rattle.std.specs.declared.io.Error.{Error}
 use Rattle.std.specs.declared.io.ErrorKind.{ErrorKind}
 use Rattle.std.specs.declared.io.ErrorKind.TheVariants.{NotFound}
-use Rattle.vectors_file.specs.declared.Source.{Source}
-use Rattle.vectors_file.specs.declared.Source.TheVariants as S
-use Rattle.runner.specs.declared.Found.{Found}
+use Rattle.vectors_file.specs.File.{File, bytes, absent, unreadable}
 
 -- as many bytes as the answer counts, from `at` on, lie in the buffer
 abbrev pub Within : ℕ → List ℕ → Result ℕ Error → Type 0
@@ -18,11 +16,11 @@ pub record More (at : ℕ) (buf buf' : List ℕ) (r : Result ℕ Error) : Type 0
   pub kept : take at buf' ≡ take at buf
 
 -- a file whose opening failed is absent by one error alone, that there is no such file: std has this kind for ENOENT, which is 2, and for no other
-abbrev pub unopened_by : ErrorKind → Source
-unopened_by NotFound = S.Absent
-unopened_by _ = S.Unreadable
+abbrev pub unopened_by : ErrorKind → File
+unopened_by NotFound = absent
+unopened_by _ = unreadable
 
--- a file that was opened has the bytes that came, or cannot be read
-abbrev pub opened_by : Result ℕ Error → Found
-opened_by (Ok n) = record { source = S.Bytes; bytes = n }
-opened_by (Err _) = record { source = S.Unreadable; bytes = 0 }
+-- a file that was opened has the bytes that came, which lie in the buffer, or cannot be read
+abbrev pub opened_by : List ℕ → Result ℕ Error → File
+opened_by buf (Ok n) = bytes (take n buf)
+opened_by buf (Err _) = unreadable

@@ -2,6 +2,7 @@
 // The runner: a run card on standard input and a file `vectors`, if there is one, in the current directory; what it prints on standard output, and what went
 // wrong on standard error.
 ghost use Rattle.std.specs.Prelude.{◌≡◌, ◌≤◌, length};
+ghost use Rattle.vectors_file.specs.Answer.{file_of};
 ghost use Rattle.runner.specs.Inner.{Within, More, unopened_by, opened_by};
 
 use std::fs;
@@ -36,16 +37,9 @@ fn read_all<R: Read>(from: &mut R, buf: &mut [u8]) -> io::Result<usize>
     Ok(done)
 }
 
-// How the file of vectors was found, and how many of its bytes were read.
-#[derive(Clone, Copy)]
-pub struct Found {
-    pub source: Source,
-    pub bytes: usize,
-}
-
 // A file that could not be opened. Only the error that there is no such file means that it is absent.
-fn unopened(error: ErrorKind) -> Source
-    ensures { result ≡ unopened_by error }
+fn unopened(error: ErrorKind) -> Source<'static>
+    ensures { file_of result ≡ unopened_by error }
 {
     match error {
         ErrorKind::NotFound => Source::Absent,
@@ -53,33 +47,26 @@ fn unopened(error: ErrorKind) -> Source
     }
 }
 
-// A file that was opened. One that could not be read to its end is not cut short.
-fn opened(read: io::Result<usize>) -> Found
-    ensures { result ≡ opened_by read }
+// A file that was opened, and what came of it. One that could not be read to its end is not cut short.
+fn opened<'a>(buf: &'a [u8], read: io::Result<usize>) -> Source<'a>
+    requires { Within 0 buf.now read }
+    ensures { file_of result ≡ opened_by buf.now read }
 {
     match read {
-        Ok(n) => Found {
-            source: Source::Bytes,
-            bytes: n,
-        },
-        Err(_) => Found {
-            source: Source::Unreadable,
-            bytes: 0,
-        },
+        Ok(n) => Source::Bytes(&buf[..n]),
+        Err(_) => Source::Unreadable,
     }
 }
 
 // The file `vectors` in the current directory.
-fn read_vectors(rt: &impl Files, buf: &mut [u8]) -> Found
-    ensures { result.bytes ≤ length buf.new }
-{
+fn read_vectors<'a>(rt: &impl Files, buf: &'a mut [u8]) -> Source<'a> {
     match fs::open(rt, "vectors") {
         // It is closed before the card is read: if standard input is closed, this file has its number.
-        Ok(mut file) => opened(read_all(&mut file, buf)),
-        Err(error) => {
-            let source = unopened(error.kind());
-            Found { source, bytes: 0 }
+        Ok(mut file) => {
+            let read = read_all(&mut file, buf);
+            opened(buf, read)
         }
+        Err(error) => unopened(error.kind()),
     }
 }
 
@@ -88,22 +75,23 @@ fn complain(rt: &HostRuntime, message: &[u8]) {
 }
 
 // Runs the card and writes all that it prints, or says that it could not.
-fn run(rt: &HostRuntime, source: Source, file: &[u8], card: &[u8]) {
+fn run(rt: &HostRuntime, source: Source<'_>, card: &[u8]) {
     let mut out = [0u8; play::ROOM];
-    // It is never too small: the output has its room.
-    if let Ok(n) = play::run_card(source, file, card, &mut out)
-        && rt.stdout().write_all(&out[..n]).is_err()
-    {
+    let Ok(n) = play::run_card(source, card, &mut out) else {
+        // The output has its room.
+        unreachable!()
+    };
+    if rt.stdout().write_all(&out[..n]).is_err() {
         complain(rt, b"runner: the result could not be written\n");
     }
 }
 
 fn main(rt: HostRuntime) {
     let mut file = [0u8; ROOM];
-    let found = read_vectors(&rt, &mut file);
+    let source = read_vectors(&rt, &mut file);
     let mut card = [0u8; ROOM];
     match read_all(&mut rt.stdin(), &mut card) {
-        Ok(n) => run(&rt, found.source, &file[..found.bytes], &card[..n]),
+        Ok(n) => run(&rt, source, &card[..n]),
         Err(_) => complain(&rt, b"runner: the card could not be read\n"),
     }
 }
