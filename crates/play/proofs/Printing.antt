@@ -2,12 +2,11 @@
 use mathlib.Core.Path.{◌≡◌, ap, ap₂, sym, subst, ◌∙◌}
 use mathlib.Core.Bool.{false}
 use mathlib.Core.List.{List, ◌++◌}
-use Prim.Native.Nat.{ℕ, ◌+◌, ◌-◌, ◌/◌, ◌≤◌, ◌<◌}
+use Prim.Native.Nat.{ℕ, ◌+◌, ◌-◌, ◌≤◌, ◌<◌}
 use native.Mathlib.Omega.{arith}
 use borrow.Author.Tests.{eq-eqb, le-ltb}
 use lib.Dec.{T, ltb}
 use lib.ListN.{length, take, drop, length-append, length-drop}
-use Rattle.effect.specs.State.{state_words}
 use Rattle.refusal.specs.Lent.{Lent, Left}
 use Rattle.refusal.specs.Refusal.{fast_refusal}
 use Rattle.refusal.specs.declared.cause.Refusal.{Refusal}
@@ -17,7 +16,6 @@ use Rattle.linked.specs.Run.{plain_run, history}
 use Rattle.steps.specs.declared.counts.Counts.{Counts}
 use Rattle.engine.specs.Answer.{Answer, number, counts_of, FastAnswer}
 use Rattle.std.specs.Prelude.{Ok, Err}
-use Rattle.engine.proofs.Answers.{fast_runnable}
 use Rattle.text.proofs.Stores.{take_sets}
 use Rattle.card.specs.Card.{Verdict, good, card_says}
 use Rattle.card.specs.Answer.{refusal, told, answered, job_at, Bounds}
@@ -28,8 +26,8 @@ use Rattle.card.proofs.Bounds.{good_says as card-says, bad_says}
 use Rattle.job.specs.Job.{image_length, memory_of, image_after}
 use Rattle.job.specs.Answer.{ReadJob}
 use Rattle.job.proofs.Laws.{right_image, image_laid, length_memory}
-use Rattle.report.specs.Answer.{answer, written, result_room}
-use Rattle.report.specs.Result.{result_text, refusal_text, cores}
+use Rattle.report.specs.Answer.{answer, written}
+use Rattle.report.specs.Result.{result_text, refusal_text}
 use Rattle.std.specs.Prelude.{Result, Ok, Err, IfOk}
 use Rattle.report.specs.declared.TooSmall.{TooSmall}
 use Rattle.report.proofs.Room.{too_small}
@@ -58,6 +56,14 @@ module _ (room : ℕ) (text out out' : List ℕ) (r : Result ℕ TooSmall) (h : 
       let n : length out ≡ length text + (length out - length text) =
       sym l ∙ ap length w' ∙ length-append text (drop (length text) out) ∙ ap (λ (k : ℕ). length text + k) (length-drop (length text) out) in
       record { says = rw b e'; left = rw b w'; among = subst (λ (q : Result ℕ TooSmall). IfOk q (λ k. k ≤ length out)) (sym e') (let k : length text ≤ length out = omega arith in k) }
+
+-- there is room for the output, so it is not refused
+pub never_too_small : {text out out' : List ℕ} {r : Result ℕ TooSmall} (e : TooSmall) → Printed text out out' r → output_room ≤ length out → r ≡ Err e → ⊥
+unfolding answer
+never_too_small {text} {out} {out'} {r} e p h f =
+    let a : ltb (length out) output_room ≡ false = le-ltb (length out) output_room h in
+    let g : r ≡ Ok (length text) = rw a at p.says in
+    cc
 
 -- ---- a run that is not refused
 

@@ -60,7 +60,7 @@ fn run_job<'a>(
     let memory = job.memory as usize;
     let steps = job.steps as usize;
     let states = &mut states[..job.cores as usize * state::STATE_WORDS];
-    let answer = engine::fast::fast_run(
+    let Ok(counts) = engine::fast::fast_run(
         &mut image[..memory],
         states,
         &schedule[..steps],
@@ -68,10 +68,9 @@ fn run_job<'a>(
         NO_LIMIT,
         vectors,
         &mut cache[..memory / 4],
-    );
-    let Ok(counts) = answer else {
+    ) else {
         // What a good card asks for is accepted.
-        unreachable!();
+        unreachable!()
     };
     Ran { counts, states }
 }

@@ -10,7 +10,7 @@ unreachable-requires c =
     let b = c.requires.ready.bounds in
     let z = lent_accepted a.vectors.now c.requires.vectors_listed a.card.now a.job a.image.now _ _ _ _ c.requires.ready (omega arith) c.reset.ensures
     (omega arith) c.schedule.ensures in
-    never_refused c.fast_run-answer.ensures z c.in_default.field-0 c.in_default.is
+    never_refused c.fast_run.ensures z c.in_default.field-0 c.in_default.is
 
 pub returns-clause-text : goal.returns-clause-text
 returns-clause-text c =
@@ -18,6 +18,6 @@ returns-clause-text c =
     let b = c.requires.ready.bounds in
     let z = lent_accepted a.vectors.now c.requires.vectors_listed a.card.now a.job a.image.now _ _ _ _ c.requires.ready (omega arith) c.reset.ensures
     (omega arith) c.schedule.ensures in
-    run_text_lem c.fast_run-answer.ensures z c.in-Ok.counts c.in-Ok.is
+    run_text_lem c.fast_run.ensures z c.in-Ok.counts c.in-Ok.is
     ∙ lent_text a.vectors.now c.requires.vectors_listed a.card.now a.job a.image.now _ _ _ _ c.requires.ready (omega arith) c.reset.ensures (omega arith)
     c.schedule.ensures

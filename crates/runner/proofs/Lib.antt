@@ -1,2 +1,0 @@
--- Laws of the runner's buffers.
-pub mod Parts
