@@ -1,6 +1,6 @@
 #![tactic(auto)]
-// The runner: a run card on standard input and a file `vectors`, if there is one, in the current directory; what it prints on standard output, and what went
-// wrong on standard error.
+// The runner: a run card on standard input and a file `vectors`, if there is one, in the current directory; what it prints
+// on standard output, and what went wrong on standard error.
 ghost use Rattle.std.specs.Prelude.{◌≡◌, ◌≤◌, length};
 ghost use Rattle.vectors_file.specs.Answer.{file_of};
 ghost use Rattle.runner.specs.Inner.{Within, More, unopened_by, opened_by};
