@@ -60,18 +60,14 @@ fn complete(
 fn onward(x: Inputs) -> Flow
     ensures { result ≡ onwardOf x }
 {
-    if in_slot(x) {
-        Flow {
-            pc: x.flow.target,
-            delay: 0,
-            target: 0,
-        }
-    } else {
-        Flow {
-            pc: arith::address_add(x.flow.pc, 4),
-            delay: 0,
-            target: 0,
-        }
+    Flow {
+        pc: if in_slot(x) {
+            x.flow.target
+        } else {
+            arith::address_add(x.flow.pc, 4)
+        },
+        delay: 0,
+        target: 0,
     }
 }
 
@@ -86,8 +82,7 @@ fn go_on(x: Inputs, place: u32, value: u32, sr: u32, link: Link, store: Option<S
 pub fn advance_effect(x: Inputs, w: Written) -> Effect
     ensures { result ≡ effect_by x (Action.Advance w) }
 {
-    let link = x.link;
-    go_on(x, w.place, w.value, w.sr, link, None)
+    go_on(x, w.place, w.value, w.sr, x.link, None)
 }
 
 // To the target after the slot.
@@ -99,15 +94,13 @@ pub fn jump_effect(x: Inputs, j: Jumped) -> Effect
         delay: 1,
         target: j.target,
     };
-    let link = x.link;
-    complete(j.place, j.value, x.sr, flow, link, state::RUNNING, None)
+    complete(j.place, j.value, x.sr, flow, x.link, state::RUNNING, None)
 }
 
 pub fn save_effect(x: Inputs, s: Store) -> Effect
     ensures { result ≡ effect_by x (Action.Save s) }
 {
-    let link = x.link;
-    go_on(x, 0, 0, x.sr, link, Some(s))
+    go_on(x, 0, 0, x.sr, x.link, Some(s))
 }
 
 fn return_effect(x: Inputs) -> Effect
@@ -118,15 +111,13 @@ fn return_effect(x: Inputs) -> Effect
         delay: 0,
         target: 0,
     };
-    let link = x.link;
-    complete(0, 0, x.esr, flow, link, state::RUNNING, None)
+    complete(0, 0, x.esr, flow, x.link, state::RUNNING, None)
 }
 
 fn halt_effect(x: Inputs) -> Effect
     ensures { result ≡ effect_by x Action.Halt }
 {
-    let link = x.link;
-    complete(0, 0, x.sr, onward(x), link, state::HALTED, None)
+    complete(0, 0, x.sr, onward(x), x.link, state::HALTED, None)
 }
 
 // l.lwa once its access is granted.
@@ -152,13 +143,12 @@ fn save_linked_effect(x: Inputs, s: Option<Store>) -> Effect
 fn accumulate_effect(x: Inputs, place: u32, value: u32, m: Accumulator) -> Effect
     ensures { result ≡ accumulating x place value m }
 {
-    let link = x.link;
     Effect {
         place,
         value,
         sr: x.sr,
         flow: onward(x),
-        link,
+        link: x.link,
         mode: state::RUNNING,
         accumulated: Some(m),
         store: None,
@@ -230,8 +220,7 @@ fn raise(x: Inputs, place: u32, value: u32, sr: u32, cause: Cause, eear: u32) ->
 pub fn fault_effect(x: Inputs, f: Faulted) -> Effect
     ensures { result ≡ effect_by x (Action.Fault f) }
 {
-    let cause = f.cause;
-    raise(x, 0, 0, x.sr, cause, f.eear)
+    raise(x, 0, 0, x.sr, f.cause, f.eear)
 }
 
 // Range, once w is written.
