@@ -1,8 +1,8 @@
 #![tactic(auto, unfolding(crate::specs::Inner::effect_by))]
 // What an action comes to: its effect, given what its instruction read.
-ghost use Rattle.std.specs.Prelude.{◌≡◌, is_some};
+ghost use Rattle.std.specs.Prelude.{◌≡◌};
 ghost use Rattle.effect.specs.State.{running};
-ghost use Rattle.effect.specs.Effect.{no_link, in_slot, onward as onwardOf, completed, restart as restartOf, exception_pc, raises, unlinking, accumulating};
+ghost use Rattle.effect.specs.Effect.{no_link, in_slot, onward as onwardOf, completed, restart as restartOf, exception_pc, raises, accumulating};
 ghost use Rattle.effect.specs.Inner.{effect_by};
 ghost use Rattle.effect.specs.declared.types.Inputs.{Inputs};
 
@@ -133,7 +133,7 @@ fn load_linked_effect(x: Inputs, l: Linked) -> Effect
 
 // l.swa once its access is granted: it stores if its link was to that word.
 fn save_linked_effect(x: Inputs, s: Option<Store>) -> Effect
-    ensures { result ≡ unlinking x (is_some s) s }
+    ensures { result ≡ effect_by x (Action.SaveLinked s) }
 {
     let sr = arith::set_flag(x.sr, s.is_some());
     go_on(x, 0, 0, sr, no_link(), s)
@@ -244,8 +244,7 @@ pub fn effect_by(x: Inputs, action: Action) -> Effect
         Action::Return => return_effect(x),
         Action::Halt => halt_effect(x),
         Action::LoadLinked(l) => load_linked_effect(x, l),
-        Action::SaveLinked(s) => save_linked_effect(x, Some(s)),
-        Action::SaveUnlinked => save_linked_effect(x, None),
+        Action::SaveLinked(s) => save_linked_effect(x, s),
         Action::Accumulate(m) => accumulate_effect(x, 0, 0, m),
         Action::ReadAccumulator => read_accumulator_effect(x),
     }
@@ -257,7 +256,8 @@ pub fn store_of(action: Action) -> Option<Store>
     ensures { (x : Inputs) → result ≡ (effect_by x action).store }
 {
     match action {
-        Action::Save(s) | Action::SaveLinked(s) => Some(s),
+        Action::Save(s) => Some(s),
+        Action::SaveLinked(s) => s,
         _ => None,
     }
 }
