@@ -82,10 +82,7 @@ fn linked(x: Inputs) -> bool
 fn conditional(x: Inputs) -> Action
     ensures { effect_by x result ≡ unlinking x (linkedOf x) (if linkedOf x then Some (storingOf x Word) else None) }
 {
-    if linked(x) {
-        return Action::SaveLinked(storing(x, Width::Word));
-    }
-    Action::SaveUnlinked
+    Action::SaveLinked(linked(x).then_some(storing(x, Width::Word)))
 }
 
 // l.swa.

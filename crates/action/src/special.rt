@@ -1,4 +1,4 @@
-// The special-purpose registers.
+// The special-purpose registers, by number: it comes from a register's value, and may name none.
 ghost use Rattle.std.specs.Prelude.{◌≡◌};
 ghost use Rattle.effect.specs.Inner.{goes_on};
 ghost use Rattle.action.specs.Operations.{special_register, sets_special_register};

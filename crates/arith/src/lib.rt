@@ -119,7 +119,8 @@ pub fn exception_sr(sr: u32, slot: bool) -> u32
     set_bit(sr, SM, true)
 }
 
-// a + b + c, where c is a carry. It overflows if a and b have one sign and the value has the other.
+// a + b + c, where c is a carry. It overflows if a and b have one sign and the value has the other: two signed
+// overflowing_add, of which one alone overflows, would be no plainer.
 #[tactic(auto, using(crate::proofs::Sums::adding), unfolding(crate::specs::Sums::sum))]
 pub fn add(a: u32, b: u32, c: bool) -> Flagged
     ensures { result ≡ sum a b c }
@@ -160,7 +161,8 @@ pub fn address_sub(a: u32, b: u32) -> u32
     a.wrapping_sub(b)
 }
 
-// The compare at place n of the set-flag order.
+// The compare at place n of the set-flag order: a kind minus the first of its group, as in the definition `holds`, so
+// that an enum would need a table from kinds.
 #[tactic(auto, using(crate::proofs::Signed::cast_back), unfolding(crate::specs::Compare::holds))]
 pub fn compare(n: u8, a: u32, b: u32) -> bool
     ensures { result ≡ holds n a b }
@@ -215,6 +217,7 @@ pub fn movhi(k: u32) -> u32
     k << 16
 }
 
+// These three, address_add, address_sub and cmov stand for one operator each: public functions with a definition's name.
 pub fn and(a: u32, b: u32) -> u32
     ensures { result ≡ bit_and a b }
 {

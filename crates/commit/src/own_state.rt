@@ -62,8 +62,7 @@ fn put_accumulated(own: &mut [u32; state::STATE_WORDS], accumulated: Option<Accu
 fn put_raised(vectors: &[u32; vectors::COUNT], own: &mut [u32; state::STATE_WORDS], x: Exception)
     ensures { own.new ≡ put_exception vectors.now (Err x) own.old 0 }
 {
-    let cause = x.cause;
-    own[state::PC] = vectors::vector(vectors, cause);
+    own[state::PC] = vectors::vector(vectors, x.cause);
     own[state::EPCR] = x.epcr;
     own[state::EEAR] = x.eear;
     own[state::ESR] = x.esr;
@@ -88,9 +87,7 @@ pub fn commit_state(vectors: &[u32; vectors::COUNT], own: &mut [u32; state::STAT
     put_value(own, e);
     put_flow(own, e);
     put_status(own, e);
-    let accumulated = e.accumulated;
-    put_accumulated(own, accumulated);
-    let outcome = e.outcome;
-    put_outcome(vectors, own, outcome);
-    outcome
+    put_accumulated(own, e.accumulated);
+    put_outcome(vectors, own, e.outcome);
+    e.outcome
 }

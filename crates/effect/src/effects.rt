@@ -1,8 +1,8 @@
 #![tactic(auto, unfolding(crate::specs::Inner::effect_by))]
 // What an action comes to: its effect, given what its instruction read.
-ghost use Rattle.std.specs.Prelude.{◌≡◌, is_some};
+ghost use Rattle.std.specs.Prelude.{◌≡◌};
 ghost use Rattle.effect.specs.State.{running};
-ghost use Rattle.effect.specs.Effect.{no_link, in_slot, onward as onwardOf, completed, restart as restartOf, exception_pc, raises, unlinking, accumulating};
+ghost use Rattle.effect.specs.Effect.{no_link, in_slot, onward as onwardOf, completed, restart as restartOf, exception_pc, raises, accumulating};
 ghost use Rattle.effect.specs.Inner.{effect_by};
 ghost use Rattle.effect.specs.declared.types.Inputs.{Inputs};
 
@@ -60,18 +60,14 @@ fn complete(
 fn onward(x: Inputs) -> Flow
     ensures { result ≡ onwardOf x }
 {
-    if in_slot(x) {
-        Flow {
-            pc: x.flow.target,
-            delay: 0,
-            target: 0,
-        }
-    } else {
-        Flow {
-            pc: arith::address_add(x.flow.pc, 4),
-            delay: 0,
-            target: 0,
-        }
+    Flow {
+        pc: if in_slot(x) {
+            x.flow.target
+        } else {
+            arith::address_add(x.flow.pc, 4)
+        },
+        delay: 0,
+        target: 0,
     }
 }
 
@@ -86,8 +82,7 @@ fn go_on(x: Inputs, place: u32, value: u32, sr: u32, link: Link, store: Option<S
 pub fn advance_effect(x: Inputs, w: Written) -> Effect
     ensures { result ≡ effect_by x (Action.Advance w) }
 {
-    let link = x.link;
-    go_on(x, w.place, w.value, w.sr, link, None)
+    go_on(x, w.place, w.value, w.sr, x.link, None)
 }
 
 // To the target after the slot.
@@ -99,15 +94,13 @@ pub fn jump_effect(x: Inputs, j: Jumped) -> Effect
         delay: 1,
         target: j.target,
     };
-    let link = x.link;
-    complete(j.place, j.value, x.sr, flow, link, state::RUNNING, None)
+    complete(j.place, j.value, x.sr, flow, x.link, state::RUNNING, None)
 }
 
 pub fn save_effect(x: Inputs, s: Store) -> Effect
     ensures { result ≡ effect_by x (Action.Save s) }
 {
-    let link = x.link;
-    go_on(x, 0, 0, x.sr, link, Some(s))
+    go_on(x, 0, 0, x.sr, x.link, Some(s))
 }
 
 fn return_effect(x: Inputs) -> Effect
@@ -118,15 +111,13 @@ fn return_effect(x: Inputs) -> Effect
         delay: 0,
         target: 0,
     };
-    let link = x.link;
-    complete(0, 0, x.esr, flow, link, state::RUNNING, None)
+    complete(0, 0, x.esr, flow, x.link, state::RUNNING, None)
 }
 
 fn halt_effect(x: Inputs) -> Effect
     ensures { result ≡ effect_by x Action.Halt }
 {
-    let link = x.link;
-    complete(0, 0, x.sr, onward(x), link, state::HALTED, None)
+    complete(0, 0, x.sr, onward(x), x.link, state::HALTED, None)
 }
 
 // l.lwa once its access is granted.
@@ -142,7 +133,7 @@ fn load_linked_effect(x: Inputs, l: Linked) -> Effect
 
 // l.swa once its access is granted: it stores if its link was to that word.
 fn save_linked_effect(x: Inputs, s: Option<Store>) -> Effect
-    ensures { result ≡ unlinking x (is_some s) s }
+    ensures { result ≡ effect_by x (Action.SaveLinked s) }
 {
     let sr = arith::set_flag(x.sr, s.is_some());
     go_on(x, 0, 0, sr, no_link(), s)
@@ -152,13 +143,12 @@ fn save_linked_effect(x: Inputs, s: Option<Store>) -> Effect
 fn accumulate_effect(x: Inputs, place: u32, value: u32, m: Accumulator) -> Effect
     ensures { result ≡ accumulating x place value m }
 {
-    let link = x.link;
     Effect {
         place,
         value,
         sr: x.sr,
         flow: onward(x),
-        link,
+        link: x.link,
         mode: state::RUNNING,
         accumulated: Some(m),
         store: None,
@@ -230,8 +220,7 @@ fn raise(x: Inputs, place: u32, value: u32, sr: u32, cause: Cause, eear: u32) ->
 pub fn fault_effect(x: Inputs, f: Faulted) -> Effect
     ensures { result ≡ effect_by x (Action.Fault f) }
 {
-    let cause = f.cause;
-    raise(x, 0, 0, x.sr, cause, f.eear)
+    raise(x, 0, 0, x.sr, f.cause, f.eear)
 }
 
 // Range, once w is written.
@@ -255,8 +244,7 @@ pub fn effect_by(x: Inputs, action: Action) -> Effect
         Action::Return => return_effect(x),
         Action::Halt => halt_effect(x),
         Action::LoadLinked(l) => load_linked_effect(x, l),
-        Action::SaveLinked(s) => save_linked_effect(x, Some(s)),
-        Action::SaveUnlinked => save_linked_effect(x, None),
+        Action::SaveLinked(s) => save_linked_effect(x, s),
         Action::Accumulate(m) => accumulate_effect(x, 0, 0, m),
         Action::ReadAccumulator => read_accumulator_effect(x),
     }
@@ -268,7 +256,8 @@ pub fn store_of(action: Action) -> Option<Store>
     ensures { (x : Inputs) → result ≡ (effect_by x action).store }
 {
     match action {
-        Action::Save(s) | Action::SaveLinked(s) => Some(s),
+        Action::Save(s) => Some(s),
+        Action::SaveLinked(s) => s,
         _ => None,
     }
 }

@@ -1,4 +1,5 @@
-// A core's state (document 01's sheet): 32 registers, then these places.
+// A core's state (document 01's sheet): 32 registers, then these places. Places and modes are numbers, since the words
+// of a state are the C interface's.
 ghost use Rattle.std.specs.Prelude.{◌≡◌, ◌+◌, ◌*◌, ◌≤◌, length};
 ghost use Rattle.effect.specs.State.{state_words, own_words};
 

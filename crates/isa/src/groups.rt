@@ -1,4 +1,7 @@
-// The groups of kinds: the first kind of each but the branches, which begin with the kinds, in order, and how many numbers kinds take.
+// The groups of kinds: the first kind of each but the branches, which begin with the kinds, in order, and how many
+// numbers kinds take. A kind is a number in the papers and in an entry's top byte, which C lends and which may name no
+// kind, and the definitions (`meaning`, `kind_row`) and theorems are of every number. An enum of 88 kinds would need a
+// table each way that says nothing more.
 pub const NOP_MOVHI: u8 = 6;
 
 pub const CONTROL: u8 = 8;

@@ -10,7 +10,7 @@ use lib.IntN.{sub_ℕ, ◌-ℤ◌}
 use lib.ListN.{length}
 use borrow.Author.Tests.{ltb-false}
 use Rattle.std.specs.Prelude.{Option}
-use Rattle.bits.specs.Word.{bit, word}
+use Rattle.bits.specs.Word.{word}
 use Rattle.bits.proofs.Cases.{if_law, if_both}
 use Rattle.isa.specs.Register.{Register}
 use Rattle.isa.specs.declared.vectors.Cause.{Cause}

@@ -17,7 +17,7 @@ use Rattle.arith.specs.declared.Flagged.{Flagged}
 use Rattle.memory.specs.Memory.{bytes, no_limit, access}
 use Rattle.memory.specs.declared.Width.{Width}
 use Rattle.memory.specs.declared.Width.TheVariants.{Word}
-use Rattle.memory.proofs.Laws.{width_of, granted_above, granted_inside, granted_in_word}
+use Rattle.memory.proofs.Laws.{granted_above, granted_inside, granted_in_word}
 use Rattle.product.specs.declared.Accumulator.{Accumulator}
 use Rattle.effect.specs.State.{state_words, epcr_at, eear_at, esr_at, machi_at, maclo_at, picmr_at, picsr_at}
 use Rattle.effect.specs.Effect.{in_slot, advances, raises, faults, accumulating}
@@ -86,7 +86,7 @@ module _ (board : Board) (len : ℕ) (x : Inputs) where
       record {
         above = granted_above (bytes w) board.limit len at g;
         inside = granted_inside (bytes w) board.limit len at g;
-        in_word = granted_in_word (bytes w) board.limit len at g (width_of w);
+        in_word = granted_in_word w board.limit len at g;
       }
 
   pub store_sound : (w : Width) → Sound board len (store board.limit x len w)

@@ -77,6 +77,7 @@ pub fn follow(
     requires { Follows (unscheduled memory.old states.old limit vectors.now) cache.old core lead }
     ensures { Followed (unscheduled memory.old states.old limit vectors.now) cache.old core lead memory.new states.new cache.new }
 {
+    // By kind, as `lead_kind` has it: l.rfe, l.jr, l.jalr, and the others.
     match (lead.form / 0x100_0000_0000_0000) as u8 {
         13 => flow::put(states, core, lead.after),
         14 => flow::put(states, core, lead.after),

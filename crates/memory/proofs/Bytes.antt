@@ -9,24 +9,24 @@ use Rattle.std.specs.Int.{byte_at, bytes_high_first}
 use Rattle.bits.specs.Word.{extend}
 use Rattle.bits.proofs.Extend.{extend_word}
 use Rattle.memory.specs.Memory.{bytes, stored}
-use Rattle.memory.specs.declared.Width as declared
+use Rattle.memory.specs.declared.Width.{Width}
 use Rattle.memory.specs.declared.Width.TheVariants.{Byte, Half, Word}
 
 -- a width is a power of 2
-pub mask_aligned : (w : declared.Width) (at : ℕ) → bit_and at (bytes w - 1) ≡ at % bytes w
+pub mask_aligned : (w : Width) (at : ℕ) → bit_and at (bytes w - 1) ≡ at % bytes w
 mask_aligned Byte at = and_mask at 0
 mask_aligned Half at = and_mask at 1
 mask_aligned Word at = and_mask at 2
 
 -- zeros above a number are its own
-pub zeros_above : (w : declared.Width) (x : ℕ) → x < 256 ^ bytes w → extend false (8 * bytes w) x ≡ x
+pub zeros_above : (w : Width) (x : ℕ) → x < 256 ^ bytes w → extend false (8 * bytes w) x ≡ x
 unfolding extend
 zeros_above Byte x h = mod-eq_of_lt h
 zeros_above Half x h = mod-eq_of_lt h
 zeros_above Word x h = mod-eq_of_lt h
 
 -- a word is its own extension
-pub word_whole : (s : Bool) (w : declared.Width) (x : ℕ) → w ≡ Word → x < 256 ^ bytes w → extend s (8 * bytes w) x ≡ x
+pub word_whole : (s : Bool) (w : Width) (x : ℕ) → w ≡ Word → x < 256 ^ bytes w → extend s (8 * bytes w) x ≡ x
 word_whole s Byte x e h = absurd cc
 word_whole s Half x e h = absurd cc
 word_whole s Word x e h = extend_word s x h

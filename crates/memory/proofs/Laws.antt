@@ -15,8 +15,8 @@ use Rattle.std.specs.Prelude.{if◌then◌else◌}
 use Rattle.bits.proofs.Cases.{if_both}
 use Rattle.isa.specs.declared.vectors.Cause.{Cause}
 use Rattle.isa.specs.declared.vectors.Cause.TheVariants.{Bus, Alignment}
-use Rattle.memory.specs.Memory.{Width, byte_wide, half_wide, word_wide, bytes, loaded, stored, memory_word, no_limit, access}
-use Rattle.memory.specs.declared.Width as declared
+use Rattle.memory.specs.Memory.{bytes, loaded, stored, memory_word, no_limit, access}
+use Rattle.memory.specs.declared.Width.{Width}
 use Rattle.memory.specs.declared.Width.TheVariants.{Byte, Half, Word}
 
 -- the list of a slice of u8 is so
@@ -94,19 +94,11 @@ loaded_stored (suc n) m at v h =
 pub other_word_kept : (n : ℕ) (m : List ℕ) (at v k : ℕ) → at % 4 + n ≤ 4 → (k ≡ at / 4 → ⊥) → memory_word (stored n m at v) k ≡ memory_word m k
 other_word_kept n m at v k h g = loaded_elsewhere 4 n m at v (4 * k) (λ p q. g (omega arith))
 
--- ---- widths
-
--- the code's widths
-pub width_of : (w : declared.Width) → Width (bytes w)
-width_of Byte = byte_wide
-width_of Half = half_wide
-width_of Word = word_wide
-
 -- an aligned access lies in one word
-pub aligned_in_word : {n : ℕ} → Width n → (at : ℕ) → at % n ≡ 0 → at % 4 + n ≤ 4
-aligned_in_word byte_wide at h = omega arith
-aligned_in_word half_wide at h = omega arith
-aligned_in_word word_wide at h = omega arith
+pub aligned_in_word : (w : Width) (at : ℕ) → at % bytes w ≡ 0 → at % 4 + bytes w ≤ 4
+aligned_in_word Byte at h = omega arith
+aligned_in_word Half at h = omega arith
+aligned_in_word Word at h = omega arith
 
 -- ---- the test, case by case
 
@@ -158,5 +150,5 @@ module _ (n limit len at : ℕ) (e : access n limit len at ≡ none) where
   pub granted_inside : at + n ≤ len
   granted_inside = passed.1.1
 
-  pub granted_in_word : Width n → at % 4 + n ≤ 4
-  granted_in_word w = aligned_in_word w at granted_aligned
+pub granted_in_word : (w : Width) (limit len at : ℕ) → access (bytes w) limit len at ≡ none → at % 4 + bytes w ≤ 4
+granted_in_word w limit len at e = aligned_in_word w at (granted_aligned (bytes w) limit len at e)

@@ -3,17 +3,11 @@ use Rattle.std.specs.Prelude.{List, Result, Ok, Err, ⊤, ℕ, zero, suc, ◌+�
 use Rattle.std.proofs.Math.Option.{Option, none, some}
 use Rattle.isa.specs.declared.vectors.Cause.{Cause}
 use Rattle.isa.specs.declared.vectors.Cause.TheVariants.{Bus, Alignment}
-use Rattle.memory.specs.declared.Width as declared
+use Rattle.memory.specs.declared.Width.{Width}
 use Rattle.memory.specs.declared.Width.TheVariants.{Byte, Half, Word}
 
--- the widths of an access. One instruction: "words 4, halves 2"; a byte is 1
-pub data Width : ℕ → Type 0 where
-  byte_wide : Width 1
-  half_wide : Width 2
-  word_wide : Width 4
-
--- how many bytes an access of the code's is to
-abbrev pub bytes : declared.Width → ℕ
+-- how many bytes an access is to, by its width. One instruction: "words 4, halves 2"; a byte is 1
+abbrev pub bytes : Width → ℕ
 bytes Byte = 1
 bytes Half = 2
 bytes Word = 4

@@ -26,8 +26,8 @@ impl Width {
     }
 }
 
-// The test that comes before every access, in a memory of len bytes: it may go on, or it raises an exception. Stores and
-// l.swa pass the run's limit; loads, l.lwa and p.* pass 0.
+// The test that comes before every access, in a memory of len bytes: it may go on, or it raises an exception. Stores
+// and l.swa pass the run's limit; loads, l.lwa and p.* pass 0.
 #[tactic(auto, using(crate::proofs::Bytes::mask_aligned), unfolding(crate::specs::Memory::access))]
 pub fn test(limit: u32, len: usize, address: u32, width: Width) -> Result<(), Cause>
     ensures { cause_of result ≡ access (bytes width) limit len address }
@@ -36,10 +36,7 @@ pub fn test(limit: u32, len: usize, address: u32, width: Width) -> Result<(), Ca
     if address & (n - 1) != 0 {
         return Err(Cause::Alignment);
     }
-    if address < limit {
-        return Err(Cause::Bus);
-    }
-    if len < address as usize + n as usize {
+    if address < limit || len < address as usize + n as usize {
         return Err(Cause::Bus);
     }
     Ok(())

@@ -1,5 +1,6 @@
 #![tactic(auto)]
-// What each kind does, a line a kind, in the order of the kinds.
+// What each kind does, a line a kind, in the order of the kinds: the papers' table. The kind is matched at each step and
+// no function is looked up in a table: `rt ci` refuses function pointers handed out, and a call through one costs more.
 ghost use Rattle.std.specs.Prelude.{◌≡◌, ◌-◌, ◌<◌};
 ghost use Rattle.isa.specs.Groups.{first_nop_movhi, first_compare_immediate, first_compare, IsNopMovhi, IsControl, IsLoad, IsAddImmediate, IsImmediate, IsCompareImmediate, IsStore, IsArithmetic, IsLogic, IsCompare, IsCache};
 ghost use Rattle.effect.specs.Inner.{effect_by, goes_on};
@@ -52,7 +53,7 @@ pub fn control(kind: u8, x: Inputs) -> Action
         13 => jumps::return_from_exception(x), // l.rfe
         14 => jumps::register_jump(x, 0, 0), // l.jr
         15 => jumps::register_jump(x, 9, jumps::after_slot(x)), // l.jalr
-        _ => raised::illegal(x), // no kind comes here
+        _ => unreachable!(),
     }
 }
 
@@ -70,7 +71,7 @@ pub fn load(mem: &[u8], kind: u8, x: Inputs) -> Action
         20 => accesses::load(x, mem, Width::Byte, true), // l.lbs
         21 => accesses::load(x, mem, Width::Half, false), // l.lhz
         22 => accesses::load(x, mem, Width::Half, true), // l.lhs
-        _ => raised::illegal(x), // no kind comes here
+        _ => unreachable!(),
     }
 }
 
@@ -83,7 +84,7 @@ pub fn add_immediate(kind: u8, x: Inputs) -> Action
     match kind {
         23 => results::result_or_raise(x, arith::add(x.a, x.immediate, false)), // l.addi
         24 => results::result_or_raise(x, arith::add(x.a, x.immediate, arith::carry(x.sr))), // l.addic
-        _ => raised::illegal(x), // no kind comes here
+        _ => unreachable!(),
     }
 }
 
@@ -102,7 +103,7 @@ pub fn immediate(cores: u32, kind: u8, x: Inputs) -> Written
         30 => completed::write(x, arith::srl(x.a, x.immediate)), // l.srli
         31 => completed::write(x, arith::sra(x.a, x.immediate)), // l.srai
         32 => completed::write(x, arith::ror(x.a, x.immediate)), // l.rori
-        _ => completed::nothing(x), // no kind comes here
+        _ => unreachable!(),
     }
 }
 
@@ -118,7 +119,7 @@ pub fn store(limit: u32, len: usize, kind: u8, x: Inputs) -> Action
         45 => accesses::store(limit, x, len, Width::Word), // l.sw
         46 => accesses::store(limit, x, len, Width::Byte), // l.sb
         47 => accesses::store(limit, x, len, Width::Half), // l.sh
-        _ => raised::illegal(x), // no kind comes here
+        _ => unreachable!(),
     }
 }
 
@@ -132,7 +133,7 @@ pub fn arithmetic(kind: u8, x: Inputs) -> Action
         48 => results::result_or_raise(x, arith::add(x.a, x.b, false)), // l.add
         49 => results::result_or_raise(x, arith::add(x.a, x.b, arith::carry(x.sr))), // l.addc
         50 => results::result_or_raise(x, arith::sub(x.a, x.b)), // l.sub
-        _ => raised::illegal(x), // no kind comes here
+        _ => unreachable!(),
     }
 }
 
@@ -159,7 +160,7 @@ pub fn logic(kind: u8, x: Inputs) -> Written
         64 => completed::write(x, arith::cmov(arith::flag(x.sr), x.a, x.b)), // l.cmov
         65 => completed::write(x, arith::ff1(x.a)), // l.ff1
         66 => completed::write(x, arith::fl1(x.a)), // l.fl1
-        _ => completed::nothing(x), // no kind comes here
+        _ => unreachable!(),
     }
 }
 
@@ -197,7 +198,7 @@ pub fn cache(len: usize, kind: u8, x: Inputs) -> Action
         77 => accesses::touch(x, len), // p.cinvalidate
         78 => accesses::touch(x, len), // p.cwriteback
         79 => accesses::touch(x, len), // p.cflush
-        _ => raised::illegal(x), // no kind comes here
+        _ => unreachable!(),
     }
 }
 
