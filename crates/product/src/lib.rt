@@ -74,7 +74,7 @@ pub fn div_unsigned(a: u32, b: u32) -> u32
     a / b
 }
 
-// The same quotients; none by 0.
+// The same quotients, and none by 0: for callers that do not know of a divisor. Those above cannot fail.
 pub fn checked_div(a: u32, b: u32) -> Option<u32>
     ensures { SomeIff result (0 < b) (quotient a b) }
 {
@@ -87,10 +87,7 @@ pub fn checked_div(a: u32, b: u32) -> Option<u32>
 pub fn checked_div_unsigned(a: u32, b: u32) -> Option<u32>
     ensures { SomeIff result (0 < b) (quotient_unsigned a b) }
 {
-    if b == 0 {
-        return None;
-    }
-    Some(div_unsigned(a, b))
+    a.checked_div(b)
 }
 
 // The low 32 bits of a product, sign-extended to 64.
