@@ -17,13 +17,7 @@ use isa::vectors::{COUNT, Cause};
 pub mod perform;
 
 // Executes an entry as it stands, whatever word memory holds: on the core's own part of the states, whose words are at fixed places.
-pub fn execute(
-    board: Board,
-    memory: &mut [u8],
-    states: &mut [u32],
-    core: u8,
-    entry: u64,
-) -> Done
+pub fn execute(board: Board, memory: &mut [u8], states: &mut [u32], core: u8, entry: u64) -> Done
     requires { core * state_words + state_words ≤ length states.old }
     ensures { Executes (board_of_code board.entry) memory.old states.old core entry memory.new states.new result }
 {

@@ -58,18 +58,33 @@ pub fn mul(a: u32, b: u32) -> Flagged
     }
 }
 
-// The signed quotient, truncated toward 0; none by 0. 80000000 by ffffffff is 2^31, whose word is 80000000.
-pub fn div(a: u32, b: u32) -> Option<u32>
+// The signed quotient, truncated toward 0. 80000000 by ffffffff is 2^31, whose word is 80000000.
+pub fn div(a: u32, b: u32) -> u32
+    requires { 0 < b }
+    ensures { result ≡ quotient a b }
+{
+    let q = a.cast_signed().wrapping_div(b.cast_signed());
+    q.cast_unsigned()
+}
+
+pub fn div_unsigned(a: u32, b: u32) -> u32
+    requires { 0 < b }
+    ensures { result ≡ quotient_unsigned a b }
+{
+    a / b
+}
+
+// The same quotients, and none by 0: for callers that do not know of a divisor. Those above cannot fail.
+pub fn checked_div(a: u32, b: u32) -> Option<u32>
     ensures { SomeIff result (0 < b) (quotient a b) }
 {
     if b == 0 {
         return None;
     }
-    let q = a.cast_signed().wrapping_div(b.cast_signed());
-    Some(q.cast_unsigned())
+    Some(div(a, b))
 }
 
-pub fn div_unsigned(a: u32, b: u32) -> Option<u32>
+pub fn checked_div_unsigned(a: u32, b: u32) -> Option<u32>
     ensures { SomeIff result (0 < b) (quotient_unsigned a b) }
 {
     a.checked_div(b)

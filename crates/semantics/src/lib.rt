@@ -211,8 +211,8 @@ pub fn product(kind: u8, x: Inputs) -> Action
         80 => results::result_or_raise(x, product::mul(x.a, x.b)), // l.mul
         81 => results::result_or_raise(x, product::mul(x.a, x.immediate)), // l.muli
         82 => results::result_or_raise(x, product::mul_unsigned(x.a, x.b)), // l.mulu
-        83 => divisions::divide(x, product::div(x.a, x.b)), // l.div
-        84 => divisions::divide(x, product::div_unsigned(x.a, x.b)), // l.divu
+        83 => divisions::divide(x, product::checked_div(x.a, x.b)), // l.div
+        84 => divisions::divide(x, product::checked_div_unsigned(x.a, x.b)), // l.divu
         85 => Action::Accumulate(x.accumulator.add_product(x.a, x.immediate)), // l.maci
         86 => Action::Accumulate(x.accumulator.add_product(x.a, x.b)), // l.mac
         87 => Action::Accumulate(x.accumulator.subtract_product(x.a, x.b)), // l.msb

@@ -75,12 +75,7 @@ pub enum Start {
 
 // Latches the lines of a running core. One in the mode `straight` runs and nothing can interrupt it, so most entries
 // need no test but that of the mode. A linked core executes what is given, if anything is.
-fn begin(
-    own: &mut [u32; STATE_WORDS],
-    lines: u32,
-    straight: u32,
-    given: Option<u64>,
-) -> Start
+fn begin(own: &mut [u32; STATE_WORDS], lines: u32, straight: u32, given: Option<u64>) -> Start
     requires { word_at own.old 0 mode_at ≡ straight → Undisturbed own.old (alone lines) }
     ensures { (own.new ≡ begun own.old (alone lines)) × (result ≡ start_of own.old (alone lines) given) }
 {

@@ -20,4 +20,4 @@ returns c =
     let l = mag_quot (signed 32 a) (signed 32 b) in
     let h : nat_abs (signed 32 a) ≤ 2 ^ 31 = nat_abs-le (signed 32 a) (rw (c.cast_signed.ensures ∙ cast_signed a f.a.fits) at c.cast_signed.type_inv) in
     let d : c.wrapping_div-q.result ≡ to_z w32 (of_z w32 q) = rw (x, y) at c.wrapping_div-q.ensures in
-    (omega arith, c.cast_unsigned.ensures ∙ cast_again (word q) _ (word_lt q) (d ∙ ap (to_z w32) (cast_word q (omega (arith, l, h)))))
+    c.cast_unsigned.ensures ∙ cast_again (word q) _ (word_lt q) (d ∙ ap (to_z w32) (cast_word q (omega (arith, l, h))))
