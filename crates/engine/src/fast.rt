@@ -3,9 +3,10 @@ ghost use Rattle.refusal.specs.Lent.{lent, left};
 ghost use Rattle.engine.specs.Answer.{FastAnswer};
 
 use crate::answer::Answer;
+use refusal::Plan;
 
 // The fast run: answers its counts, or the first rule that is broken, and then nothing lent is written. Its
-// parameters are the C interface's.
+// parameters are the C interface's, and what is only read becomes a Plan here.
 pub fn fast_run(
     memory: &mut [u8],
     states: &mut [u32],
@@ -17,6 +18,12 @@ pub fn fast_run(
 ) -> Answer
     ensures { FastAnswer (lent memory.old states.old schedule.now levels.now limit vectors.now) cache.old (left memory.new states.new) cache.new result }
 {
-    refusal::check_fast(memory, states, schedule, levels, limit, vectors, cache)?;
-    Ok(linked::run(memory, states, schedule, levels, limit, vectors, cache))
+    let plan = Plan {
+        schedule,
+        levels,
+        limit,
+        vectors,
+    };
+    refusal::check_fast(memory, states, plan, cache)?;
+    Ok(linked::run(memory, states, plan, cache))
 }

@@ -9,7 +9,7 @@ ghost use Rattle.linked.specs.Inner.{unscheduled, reads_nothing, Follows, Follow
 use crate::{flow, modes};
 use effect::state;
 use effect::types::Flow;
-use isa::vectors::COUNT;
+use refusal::Plan;
 
 // What core 0 hands to the linked cores: the form that it fetched and completed, and its flow before and after.
 #[derive(Clone, Copy)]
@@ -25,21 +25,20 @@ fn execute(
     memory: &mut [u8],
     states: &mut [u32],
     core: usize,
-    limit: u32,
-    vectors: &[u32; COUNT],
+    plan: Plan<'_>,
     cache: &mut [u64],
     lead: Lead,
 )
-    requires follows { Follows (unscheduled memory.old states.old limit vectors.now) cache.old core lead }
+    requires follows { Follows (unscheduled memory.old states.old plan.limit plan.vectors.now) cache.old core lead }
     requires reads_state { reads_nothing (lead_kind lead) ≡ false }
-    ensures { Followed (unscheduled memory.old states.old limit vectors.now) cache.old core lead memory.new states.new cache.new }
+    ensures { Followed (unscheduled memory.old states.old plan.entry.limit plan.entry.vectors.now) cache.old core lead memory.new states.new cache.new }
 {
     let base = core * state::STATE_WORDS;
     let end = base + state::STATE_WORDS;
     let mut own = [0u32; state::STATE_WORDS];
     own.copy_from_slice(&states[base..end]);
     flow::put(states, core, lead.before);
-    if steps::execute_form(memory, states, core as u8, limit, vectors, cache, lead.form) {
+    if steps::execute_form(memory, states, core as u8, plan, cache, lead.form) {
         flow::put(states, core, lead.after);
         modes::relink(states, core);
         return;
@@ -69,19 +68,18 @@ pub fn follow(
     memory: &mut [u8],
     states: &mut [u32],
     core: usize,
-    limit: u32,
-    vectors: &[u32; COUNT],
+    plan: Plan<'_>,
     cache: &mut [u64],
     lead: Lead,
 )
-    requires { Follows (unscheduled memory.old states.old limit vectors.now) cache.old core lead }
-    ensures { Followed (unscheduled memory.old states.old limit vectors.now) cache.old core lead memory.new states.new cache.new }
+    requires { Follows (unscheduled memory.old states.old plan.limit plan.vectors.now) cache.old core lead }
+    ensures { Followed (unscheduled memory.old states.old plan.entry.limit plan.entry.vectors.now) cache.old core lead memory.new states.new cache.new }
 {
     // By kind, as `lead_kind` has it: l.rfe, l.jr, l.jalr, and the others.
     match (lead.form / 0x100_0000_0000_0000) as u8 {
         13 => flow::put(states, core, lead.after),
         14 => flow::put(states, core, lead.after),
         15 => call(states, core, lead),
-        _ => execute(memory, states, core, limit, vectors, cache, lead),
+        _ => execute(memory, states, core, plan, cache, lead),
     }
 }

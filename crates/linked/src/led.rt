@@ -1,14 +1,14 @@
 // The entries of a schedule where cores are linked.
 ghost use Rattle.std.specs.Prelude.{◌≡◌, ◌<◌, [], ◌∷◌};
 ghost use Rattle.commit.specs.Commit.{core_count};
-ghost use Rattle.refusal.specs.Lent.{lent};
+ghost use Rattle.refusal.specs.Lent.{lent, lent_by};
 ghost use Rattle.steps.specs.Inner.{Runnable};
 ghost use Rattle.linked.specs.Inner.{unscheduled, Leads, FollowedIf, AllFollowed, was_shared, Led, Finished};
 
 use crate::follow::Lead;
 use crate::{flow, follow, modes};
 use effect::state;
-use isa::vectors::COUNT;
+use refusal::Plan;
 use steps::counts::Counts;
 
 // The core follows if it is linked.
@@ -16,37 +16,29 @@ fn follow_if_linked(
     memory: &mut [u8],
     states: &mut [u32],
     core: usize,
-    limit: u32,
-    vectors: &[u32; COUNT],
+    plan: Plan<'_>,
     cache: &mut [u64],
     lead: Lead,
 )
-    requires runnable { Runnable (unscheduled memory.old states.old limit vectors.now) cache.old }
+    requires runnable { Runnable (unscheduled memory.old states.old plan.limit plan.vectors.now) cache.old }
     requires leads { Leads lead }
     requires core_nonzero { (0 < core) × (core < core_count states.old) }
-    ensures { FollowedIf (unscheduled memory.old states.old limit vectors.now) cache.old core lead memory.new states.new cache.new }
+    ensures { FollowedIf (unscheduled memory.old states.old plan.entry.limit plan.entry.vectors.now) cache.old core lead memory.new states.new cache.new }
 {
     if modes::is_linked(states, core) {
-        follow::follow(memory, states, core, limit, vectors, cache, lead);
+        follow::follow(memory, states, core, plan, cache, lead);
     }
 }
 
 // Every linked core follows, in rising order.
-fn followers(
-    memory: &mut [u8],
-    states: &mut [u32],
-    limit: u32,
-    vectors: &[u32; COUNT],
-    cache: &mut [u64],
-    lead: Lead,
-)
-    requires runnable { Runnable (unscheduled memory.old states.old limit vectors.now) cache.old }
+fn followers(memory: &mut [u8], states: &mut [u32], plan: Plan<'_>, cache: &mut [u64], lead: Lead)
+    requires runnable { Runnable (unscheduled memory.old states.old plan.limit plan.vectors.now) cache.old }
     requires leads { Leads lead }
-    ensures { AllFollowed (unscheduled memory.old states.old limit vectors.now) cache.old lead memory.new states.new cache.new }
+    ensures { AllFollowed (unscheduled memory.old states.old plan.entry.limit plan.entry.vectors.now) cache.old lead memory.new states.new cache.new }
 {
     let cores = states.len() / state::STATE_WORDS;
     for core in 1..cores {
-        follow_if_linked(memory, states, core, limit, vectors, cache, lead);
+        follow_if_linked(memory, states, core, plan, cache, lead);
     }
 }
 
@@ -63,16 +55,20 @@ fn entry(
     states: &mut [u32],
     core: u8,
     lines: u32,
-    limit: u32,
-    vectors: &[u32; COUNT],
+    plan: Plan<'_>,
     cache: &mut [u64],
 ) -> Counts
-    requires { Runnable (lent memory.old states.old (core ∷ []) (lines ∷ []) limit vectors.now) cache.old }
-    ensures { Led (lent memory.old states.old (core ∷ []) (lines ∷ []) limit vectors.now) cache.old (record { core = core; lines = lines }) memory.new states.new cache.new result }
+    requires { Runnable (lent memory.old states.old (core ∷ []) (lines ∷ []) plan.limit plan.vectors.now) cache.old }
+    ensures { Led (lent memory.old states.old (core ∷ []) (lines ∷ []) plan.entry.limit plan.entry.vectors.now) cache.old (record { core = core; lines = lines }) memory.new states.new cache.new result }
 {
     let before = flow::of_core(states, 0);
     let form = decode_cache::peek(memory, cache, before.pc as usize);
-    let counts = steps::run(memory, states, &[core], &[lines], limit, vectors, cache);
+    let once = Plan {
+        schedule: &[core],
+        levels: &[lines],
+        ..plan
+    };
+    let counts = steps::run(memory, states, once, cache);
     if !was_shared(core, counts) {
         return counts;
     }
@@ -82,32 +78,23 @@ fn entry(
         before,
         after: flow::of_core(states, 0),
     };
-    followers(memory, states, limit, vectors, cache, lead);
+    followers(memory, states, plan, cache, lead);
     counts
 }
 
 // The schedule's entries, in order, each with the linked cores. By index, as the loop of steps.
-pub fn entries(
-    memory: &mut [u8],
-    states: &mut [u32],
-    schedule: &[u8],
-    levels: &[u32],
-    limit: u32,
-    vectors: &[u32; COUNT],
-    cache: &mut [u64],
-) -> Counts
-    requires { Runnable (lent memory.old states.old schedule.now levels.now limit vectors.now) cache.old }
-    ensures { Finished (lent memory.old states.old schedule.now levels.now limit vectors.now) cache.old memory.new states.new cache.new result }
+pub fn entries(memory: &mut [u8], states: &mut [u32], plan: Plan<'_>, cache: &mut [u64]) -> Counts
+    requires { Runnable (lent_by memory.old states.old plan) cache.old }
+    ensures { Finished (lent_by memory.old states.old plan.entry) cache.old memory.new states.new cache.new result }
 {
     let mut counts = Counts::default();
-    for i in 0..schedule.len() {
+    for i in 0..plan.schedule.len() {
         let more = entry(
             memory,
             states,
-            schedule[i],
-            levels[i],
-            limit,
-            vectors,
+            plan.schedule[i],
+            plan.levels[i],
+            plan,
             cache,
         );
         counts = counts + more;

@@ -5,8 +5,7 @@ use mathlib.Core.Path.{◌≡◌, ap, refl, sym, ◌∙◌}
 use Prim.Native.Nat.{ℕ, zero, suc, max, ◌+◌, ◌*◌, ◌<◌, ◌≤◌}
 use native.Mathlib.Omega.{arith}
 use lib.Dec.{T, ltb, ltb→lt}
-use lib.ListN.{length, get_or, drop, drop_of_length-le, take}
-use lib.Seq.{drop-cons}
+use lib.ListN.{length, get_or}
 use Rattle.std.specs.Prelude.{if◌then◌else◌, Option, fold}
 use Rattle.std.specs.Option.{MatchOption}
 use Rattle.std.specs.List.{reduce, list_all, enumerate_from}

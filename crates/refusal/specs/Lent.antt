@@ -4,6 +4,7 @@
 use Rattle.std.specs.Prelude.{List, ℕ}
 use Rattle.effect.specs.Board.{Board}
 use Rattle.commit.specs.Commit.{core_count}
+use Rattle.refusal.specs.declared.Plan.{Plan}
 
 pub record Lent : Type 0 where
   pub memory : List ℕ
@@ -22,6 +23,10 @@ lent mem s schedule levels limit vectors = record {
   limit = limit;
   vectors = vectors;
 }
+
+-- memory and states, with what a run only reads
+abbrev pub lent_by : List ℕ → List ℕ → Plan → Lent
+lent_by mem s plan = lent mem s plan.schedule.now plan.levels.now plan.limit plan.vectors.now
 
 -- memory and states afterwards
 pub record Left : Type 0 where

@@ -2,7 +2,7 @@
 // What a run is lent is tested before it runs, in the order of the documents' refusals.
 ghost use Rattle.std.specs.Prelude.{◌≡◌};
 ghost use Rattle.effect.specs.Board.{Board};
-ghost use Rattle.refusal.specs.Lent.{lent};
+ghost use Rattle.refusal.specs.Lent.{lent_by};
 ghost use Rattle.refusal.specs.Refusal.{memory_fits, states_fit, limit_fits, cache_rules, first_broken, plain_refusal, fast_refusal, verdict_number};
 
 use crate::cause::Refusal;
@@ -12,6 +12,16 @@ pub mod cache;
 pub mod cause;
 pub mod schedule;
 pub mod states;
+
+// What a run only reads of what it is lent: for each entry a core and the levels of the lines; the limit below which
+// memory is read-only; the list of vectors.
+#[derive(Clone, Copy)]
+pub struct Plan<'a> {
+    pub schedule: &'a [u8],
+    pub levels: &'a [u32],
+    pub limit: u32,
+    pub vectors: &'a [u32],
+}
 
 #[tactic(auto, unfolding(crate::specs::Refusal::memory_fits))]
 fn memory_fits(len: usize) -> bool
@@ -38,15 +48,8 @@ fn limit_fits(len: usize, limit: u32) -> bool
 
 // Refusals 1 to 5 and 11 to 13, which both runs have.
 #[tactic(auto, unfolding(crate::specs::Refusal::plain_refusal, crate::specs::Refusal::first_broken, crate::specs::Refusal::schedule_fits, crate::specs::Refusal::levels_fit))]
-pub fn check(
-    memory: &[u8],
-    states: &[u32],
-    schedule: &[u8],
-    levels: &[u32],
-    limit: u32,
-    vectors: &[u32],
-) -> Result<(), Refusal>
-    ensures { verdict_number result ≡ plain_refusal (lent memory.now states.now schedule.now levels.now limit vectors.now) }
+pub fn check(memory: &[u8], states: &[u32], plan: Plan<'_>) -> Result<(), Refusal>
+    ensures { verdict_number result ≡ plain_refusal (lent_by memory.now states.now plan.entry) }
 {
     if !memory_fits(memory.len()) {
         return Err(Refusal::MemoryLength);
@@ -57,19 +60,19 @@ pub fn check(
     if !states::states_accepted(states) {
         return Err(Refusal::StateRule);
     }
-    if 0x1_0000 < schedule.len() {
+    if 0x1_0000 < plan.schedule.len() {
         return Err(Refusal::ScheduleLength);
     }
-    if !schedule::names_cores(schedule, states.len() / state::STATE_WORDS) {
+    if !schedule::names_cores(plan.schedule, states.len() / state::STATE_WORDS) {
         return Err(Refusal::NoSuchCore);
     }
-    if levels.len() != schedule.len() {
+    if plan.levels.len() != plan.schedule.len() {
         return Err(Refusal::LevelsLength);
     }
-    if !limit_fits(memory.len(), limit) {
+    if !limit_fits(memory.len(), plan.limit) {
         return Err(Refusal::ReadOnlyLimit);
     }
-    if !vector_list::fits(vectors) {
+    if !vector_list::fits(plan.vectors) {
         return Err(Refusal::VectorList);
     }
     Ok(())
@@ -93,14 +96,11 @@ fn check_cache(memory: &[u8], cache: &[u64]) -> Result<(), Refusal>
 pub fn check_fast(
     memory: &[u8],
     states: &[u32],
-    schedule: &[u8],
-    levels: &[u32],
-    limit: u32,
-    vectors: &[u32],
+    plan: Plan<'_>,
     cache: &[u64],
 ) -> Result<(), Refusal>
-    ensures { verdict_number result ≡ fast_refusal (lent memory.now states.now schedule.now levels.now limit vectors.now) cache.now }
+    ensures { verdict_number result ≡ fast_refusal (lent_by memory.now states.now plan.entry) cache.now }
 {
-    check(memory, states, schedule, levels, limit, vectors)?;
+    check(memory, states, plan)?;
     check_cache(memory, cache)
 }

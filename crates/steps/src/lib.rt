@@ -8,14 +8,14 @@ ghost use Rattle.effect.specs.State.{state_words, pc_at, mode_at, linked};
 ghost use Rattle.commit.specs.Commit.{word_at};
 ghost use Rattle.decode_cache.specs.Inner.{Backed};
 ghost use Rattle.pic.specs.Interrupt.{is_interrupted};
-ghost use Rattle.refusal.specs.Lent.{lent};
+ghost use Rattle.refusal.specs.Lent.{lent, lent_by};
 ghost use Rattle.steps.specs.Inner.{IsForm, Runnable, Undisturbed, alone, begun, start_of, straight_mode, Entered, Stepped, Finished, FormExecuted};
 
 use crate::counts::Counts;
 use effect::state;
 use effect::state::STATE_WORDS;
 use effect::types::{Board, Outcome};
-use isa::vectors::COUNT;
+use refusal::Plan;
 
 pub mod counts;
 pub mod form;
@@ -139,33 +139,30 @@ fn straight_mode(states: &[u32], levels: &[u32]) -> u32
 
 // The schedule's entries, in order; a linked core's executes the form that is given, if one is. Everything that
 // executes shares this loop: exec::execute has one caller, so the compiler inlines it here. By index, since a zip looks
-// for the end of both lists at each entry.
+// for the end of both lists at each entry. The list of vectors becomes an array here, once for all entries.
 fn entries(
     memory: &mut [u8],
     states: &mut [u32],
-    schedule: &[u8],
-    levels: &[u32],
-    limit: u32,
-    vectors: &[u32; COUNT],
+    plan: Plan<'_>,
     cache: &mut [u64],
     given: Option<u64>,
 ) -> Counts
-    requires runnable { Runnable (lent memory.old states.old schedule.now levels.now limit vectors.now) cache.old }
+    requires runnable { Runnable (lent_by memory.old states.old plan) cache.old }
     requires form { IfSome given IsForm }
-    ensures { Finished (lent memory.old states.old schedule.now levels.now limit vectors.now) given cache.old memory.new states.new cache.new result }
+    ensures { Finished (lent_by memory.old states.old plan.entry) given cache.old memory.new states.new cache.new result }
 {
     let cores = states.len() / STATE_WORDS;
     let board = Board {
         cores: cores as u32,
-        limit,
-        vectors,
+        limit: plan.limit,
+        vectors: plan.vectors.as_array().unwrap(),
     };
-    let straight = straight_mode(states, levels);
+    let straight = straight_mode(states, plan.levels);
     let mut counts = Counts::default();
-    for i in 0..schedule.len() {
+    for i in 0..plan.schedule.len() {
         let entry = Scheduled {
-            core: schedule[i],
-            lines: levels[i],
+            core: plan.schedule[i],
+            lines: plan.levels[i],
         };
         let turn = step(board, memory, states, cache, entry, straight, given);
         counts = counts.after(turn);
@@ -174,39 +171,32 @@ fn entries(
 }
 
 // The schedule's entries, each for its own core alone: a linked core's does nothing.
-pub fn run(
-    memory: &mut [u8],
-    states: &mut [u32],
-    schedule: &[u8],
-    levels: &[u32],
-    limit: u32,
-    vectors: &[u32; COUNT],
-    cache: &mut [u64],
-) -> Counts
-    requires { Runnable (lent memory.old states.old schedule.now levels.now limit vectors.now) cache.old }
-    ensures { Finished (lent memory.old states.old schedule.now levels.now limit vectors.now) None cache.old memory.new states.new cache.new result }
+pub fn run(memory: &mut [u8], states: &mut [u32], plan: Plan<'_>, cache: &mut [u64]) -> Counts
+    requires { Runnable (lent_by memory.old states.old plan) cache.old }
+    ensures { Finished (lent_by memory.old states.old plan.entry) None cache.old memory.new states.new cache.new result }
 {
-    entries(
-        memory, states, schedule, levels, limit, vectors, cache, None,
-    )
+    entries(memory, states, plan, cache, None)
 }
 
-// A linked core executes a form as it stands; whether it completes.
+// A linked core executes a form as it stands, under the plan's limit and vectors; whether it completes.
 pub fn execute_form(
     memory: &mut [u8],
     states: &mut [u32],
     core: u8,
-    limit: u32,
-    vectors: &[u32; COUNT],
+    plan: Plan<'_>,
     cache: &mut [u64],
     form: u64,
 ) -> bool
-    requires runnable { Runnable (lent memory.old states.old (core ∷ []) (0 ∷ []) limit vectors.now) cache.old }
+    requires runnable { Runnable (lent memory.old states.old (core ∷ []) (0 ∷ []) plan.limit plan.vectors.now) cache.old }
     requires mode_linked { word_at states.old core mode_at ≡ linked }
     requires form { IsForm form }
-    ensures { FormExecuted (lent memory.old states.old (core ∷ []) (0 ∷ []) limit vectors.now) cache.old core form memory.new states.new cache.new result }
+    ensures { FormExecuted (lent memory.old states.old (core ∷ []) (0 ∷ []) plan.entry.limit plan.entry.vectors.now) cache.old core form memory.new states.new cache.new result }
 {
-    let given = Some(form);
-    let counts = entries(memory, states, &[core], &[0], limit, vectors, cache, given);
+    let once = Plan {
+        schedule: &[core],
+        levels: &[0],
+        ..plan
+    };
+    let counts = entries(memory, states, once, cache, Some(form));
     counts.raised == 0
 }

@@ -1,4 +1,5 @@
-use mathlib.Core.Path.{refl, sym, ap, ◌∙◌}
+use Rattle.std.proofs.Common.{rules}
+use mathlib.Core.Path.{◌≡◌, refl, sym, ap, ◌∙◌}
 use Prim.Native.Nat.{◌<◌}
 use native.Mathlib.Omega.{arith}
 use lib.ListN.{get_or}
@@ -30,7 +31,7 @@ step-turn-requires-clause-pc_aligned c =
 pub step-turn-requires-clause-undisturbed : goal.step-turn-requires-clause-undisturbed
 step-turn-requires-clause-undisturbed c =
     let l = c.loop-i in
-    let core = get_or c.args.schedule.now l.i 0 in
+    let core = get_or c.args.plan.schedule.now l.i 0 in
     let n = c.requires.runnable.cores_there l.i c.loop-i-test.true in
     let h : core < core_count l.states = omega (arith, n) in
     λ q. straight_undisturbed _ _ _ _ l.i refl (l.invariant.accepted core h).mode_lawful (λ z. l.invariant.unlatched z core h) (q ∙ c.straight_mode-straight.ensures)
@@ -40,11 +41,12 @@ loop-i-preserved c =
     let test = c.loop-i-test.true in
     let l = c.loop-i in
     let p = c.requires.runnable in
-    let f = c.step-turn in
+    let v : c.unwrap.result.now ≡ c.args.plan.vectors.now = search rules in
+    let f = rw v at c.step-turn.ensures in
     let q = c.after-counts.ensures in
     let n = p.cores_there l.i test in
-    let h : get_or c.args.schedule.now l.i 0 < core_count l.states = omega (arith, n) in
-    let e = ap (fast_of _ _ _) q.0 ∙ f.ensures.left l.counts in
+    let h : get_or c.args.plan.schedule.now l.i 0 < core_count l.states = omega (arith, n) in
+    let e = ap (fast_of _ _ _) q.0 ∙ f.left l.counts in
     let kept = given_kept _ _ _ _ h l.invariant.accepted l.invariant.right c.requires.form e p.vectors_lawful in
     record {
       left =

@@ -13,16 +13,16 @@ pub returns-in-13 : goal.returns-in-13
 returns-in-13 c =
     let a = c.args in
     let small : a.lead.form < 2 ^ 64 = omega (arith, c.struct_known-1.given) in
-    ap (λ (l : List ℕ). shared a.memory.now l a.cache.now) c.put.ensures ∙ follows_return a.memory.now a.states.now a.limit a.vectors.now a.cache.now a.core a.lead c.requires (kind_is small c.in-13.is)
+    ap (λ (l : List ℕ). shared a.memory.now l a.cache.now) c.put.ensures ∙ follows_return a.memory.now a.states.now a.plan.limit a.plan.vectors.now a.cache.now a.core a.lead c.requires (kind_is small c.in-13.is)
 
 pub returns-in-14 : goal.returns-in-14
 returns-in-14 c =
     let a = c.args in
     let small : a.lead.form < 2 ^ 64 = omega (arith, c.struct_known-1.given) in
-    ap (λ (l : List ℕ). shared a.memory.now l a.cache.now) c.put-in-14.ensures ∙ follows_jump a.memory.now a.states.now a.limit a.vectors.now a.cache.now a.core a.lead c.requires (kind_is small c.in-14.is)
+    ap (λ (l : List ℕ). shared a.memory.now l a.cache.now) c.put-in-14.ensures ∙ follows_jump a.memory.now a.states.now a.plan.limit a.plan.vectors.now a.cache.now a.core a.lead c.requires (kind_is small c.in-14.is)
 
 pub returns-in-15 : goal.returns-in-15
 returns-in-15 c =
     let a = c.args in
     let small : a.lead.form < 2 ^ 64 = omega (arith, c.struct_known-1.given) in
-    ap (λ (l : List ℕ). shared a.memory.now l a.cache.now) c.call.ensures ∙ follows_call a.memory.now a.states.now a.limit a.vectors.now a.cache.now a.core a.lead c.requires (kind_is small c.in-15.is)
+    ap (λ (l : List ℕ). shared a.memory.now l a.cache.now) c.call.ensures ∙ follows_call a.memory.now a.states.now a.plan.limit a.plan.vectors.now a.cache.now a.core a.lead c.requires (kind_is small c.in-15.is)

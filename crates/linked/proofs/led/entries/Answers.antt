@@ -27,7 +27,7 @@ entry-more-requires c =
     let l = c.loop-i in
     let h = p.cores_there l.i c.loop-i-test.true in
     scheduled_runnable
-    (runnable_again a.memory.now a.states.now l.memory l.states a.limit a.vectors.now a.cache.now l.cache l.auto.states (unscheduled_runnable p) l.auto.memory l.auto.cache l.invariant.accepted l.invariant.right)
+    (runnable_again a.memory.now a.states.now l.memory l.states a.plan.limit a.plan.vectors.now a.cache.now l.cache l.auto.states (unscheduled_runnable p) l.auto.memory l.auto.cache l.invariant.accepted l.invariant.right)
     _ _ (omega (arith, h, l.auto.states))
 
 pub loop-i-preserved : goal.loop-i-preserved
@@ -37,13 +37,13 @@ loop-i-preserved c =
     let l = c.loop-i in
     let h = c.loop-i-test.true in
     let entry = c.entry-more in
-    let board = board_of (unscheduled a.memory.now a.states.now a.limit a.vectors.now) in
+    let board = board_of (unscheduled a.memory.now a.states.now a.plan.limit a.plan.vectors.now) in
     let e = ap (fast_of _ _ _) c.add-counts.ensures
-    ∙ led_on l.memory l.states a.limit a.vectors.now l.cache l.counts _ _ a.memory.now a.states.now l.auto.states entry.ensures in
+    ∙ led_on l.memory l.states a.plan.limit a.plan.vectors.now l.cache l.counts _ _ a.memory.now a.states.now l.auto.states entry.ensures in
     let n = p.cores_there l.i h in
     let kept = linked_kept board p.vectors_lawful (fast_of l.memory l.states l.cache l.counts) _ (omega (arith, n, l.auto.states)) l.invariant.accepted l.invariant.right e in
     record {
-      left = ap (fast_from _ _) e ∙ sym (from_next board a.schedule.now a.levels.now l.i _ h (omega (arith, h, p.one_level_each))) ∙ l.invariant.left;
+      left = ap (fast_from _ _) e ∙ sym (from_next board a.plan.schedule.now a.plan.levels.now l.i _ h (omega (arith, h, p.one_level_each))) ∙ l.invariant.left;
       small = subst (AtMost _) (sym c.add-counts.ensures) (added_small l.i l.invariant.small entry.ensures.once);
       accepted = kept.0;
       right = kept.1;

@@ -7,22 +7,22 @@ use Rattle.linked.proofs.Entry.{core_0, entry_own, entry_found, entry_leads, ent
 use Rattle.linked.proofs.led.entry.Goals as goal
 
 pub of_core-before-requires : goal.of_core-before-requires
-of_core-before-requires c = let a = c.args in core_0 a.memory.now a.states.now a.core a.lines a.limit a.vectors.now a.cache.now c.requires
+of_core-before-requires c = let a = c.args in core_0 a.memory.now a.states.now a.core a.lines a.plan.limit a.plan.vectors.now a.cache.now c.requires
 
 pub returns-then-not-was_shared : goal.returns-then-not-was_shared
 returns-then-not-was_shared c =
     let a = c.args in
-    entry_own a.memory.now a.states.now a.core a.lines a.limit a.vectors.now a.cache.now c.requires c.run-counts.ensures (sym c.was_shared.ensures ∙ c.if-not-was_shared.true)
+    entry_own a.memory.now a.states.now a.core a.lines a.plan.limit a.plan.vectors.now a.cache.now c.requires c.run-counts.ensures (sym c.was_shared.ensures ∙ c.if-not-was_shared.true)
 
 pub unwrap-requires : goal.unwrap-requires
 unwrap-requires c =
     let a = c.args in
     let shared = sym c.was_shared.ensures ∙ c.if-not-was_shared.false in
-    let found = c.peek-form.ensures (board_of (unscheduled a.memory.now a.states.now a.limit a.vectors.now)) in
-    ap is_some (entry_found a.memory.now a.states.now a.core a.lines a.limit a.vectors.now a.cache.now c.requires c.run-counts.ensures shared (ap (λ (f : Flow). f.pc) c.of_core-before.ensures) found)
+    let found = c.peek-form.ensures (board_of (unscheduled a.memory.now a.states.now a.plan.limit a.plan.vectors.now)) in
+    ap is_some (entry_found a.memory.now a.states.now a.core a.lines a.plan.limit a.plan.vectors.now a.cache.now c.requires c.run-counts.ensures shared (ap (λ (f : Flow). f.pc) c.of_core-before.ensures) found)
 
 pub of_core-requires : goal.of_core-requires
-of_core-requires c = let a = c.args in omega (arith, core_0 a.memory.now a.states.now a.core a.lines a.limit a.vectors.now a.cache.now c.requires, c.run-counts.auto.states)
+of_core-requires c = let a = c.args in omega (arith, core_0 a.memory.now a.states.now a.core a.lines a.plan.limit a.plan.vectors.now a.cache.now c.requires, c.run-counts.auto.states)
 
 pub followers-requires : goal.followers-requires
 followers-requires c =
@@ -30,12 +30,12 @@ followers-requires c =
     let run = c.run-counts in
     let shared = sym c.was_shared.ensures ∙ c.if-not-was_shared.false in
     let before = c.of_core-before.ensures in
-    let found = c.peek-form.ensures (board_of (unscheduled a.memory.now a.states.now a.limit a.vectors.now)) in
-    let form = sym c.unwrap.ensures ∙ entry_found a.memory.now a.states.now a.core a.lines a.limit a.vectors.now a.cache.now c.requires run.ensures shared (ap (λ (f : Flow). f.pc) before) found in
+    let found = c.peek-form.ensures (board_of (unscheduled a.memory.now a.states.now a.plan.limit a.plan.vectors.now)) in
+    let form = sym c.unwrap.ensures ∙ entry_found a.memory.now a.states.now a.core a.lines a.plan.limit a.plan.vectors.now a.cache.now c.requires run.ensures shared (ap (λ (f : Flow). f.pc) before) found in
     let after = c.of_core.ensures in
     record {
-      runnable = entry_runnable a.memory.now a.states.now a.core a.lines a.limit a.vectors.now a.cache.now c.requires run.ensures shared run.auto.states form before after run.auto.memory run.auto.cache;
-      leads = entry_leads a.memory.now a.states.now a.core a.lines a.limit a.vectors.now a.cache.now c.requires run.ensures shared run.auto.states form before after;
+      runnable = entry_runnable a.memory.now a.states.now a.core a.lines a.plan.limit a.plan.vectors.now a.cache.now c.requires run.ensures shared run.auto.states form before after run.auto.memory run.auto.cache;
+      leads = entry_leads a.memory.now a.states.now a.core a.lines a.plan.limit a.plan.vectors.now a.cache.now c.requires run.ensures shared run.auto.states form before after;
     }
 
 pub returns : goal.returns
@@ -44,6 +44,6 @@ returns c =
     let run = c.run-counts in
     let shared = sym c.was_shared.ensures ∙ c.if-not-was_shared.false in
     let before = c.of_core-before.ensures in
-    let found = c.peek-form.ensures (board_of (unscheduled a.memory.now a.states.now a.limit a.vectors.now)) in
-    let form = sym c.unwrap.ensures ∙ entry_found a.memory.now a.states.now a.core a.lines a.limit a.vectors.now a.cache.now c.requires run.ensures shared (ap (λ (f : Flow). f.pc) before) found in
-    entry_shared a.memory.now a.states.now a.core a.lines a.limit a.vectors.now a.cache.now c.requires run.ensures shared run.auto.states form before c.of_core.ensures c.followers.ensures
+    let found = c.peek-form.ensures (board_of (unscheduled a.memory.now a.states.now a.plan.limit a.plan.vectors.now)) in
+    let form = sym c.unwrap.ensures ∙ entry_found a.memory.now a.states.now a.core a.lines a.plan.limit a.plan.vectors.now a.cache.now c.requires run.ensures shared (ap (λ (f : Flow). f.pc) before) found in
+    entry_shared a.memory.now a.states.now a.core a.lines a.plan.limit a.plan.vectors.now a.cache.now c.requires run.ensures shared run.auto.states form before c.of_core.ensures c.followers.ensures

@@ -15,7 +15,7 @@ follow_if_linked-requires c =
     let a = c.args in
     let l = c.loop-core in
     record {
-      runnable = runnable_after a.memory.now a.states.now a.limit a.vectors.now a.cache.now a.lead c.requires.runnable c.requires.leads (l.core - 1) (omega arith) l.invariant.left;
+      runnable = runnable_after a.memory.now a.states.now a.plan.limit a.plan.vectors.now a.cache.now a.lead c.requires.runnable c.requires.leads (l.core - 1) (omega arith) l.invariant.left;
       leads = c.requires.leads;
       core_nonzero = (omega arith, omega arith);
     }
@@ -25,7 +25,7 @@ loop-core-preserved c =
     let a = c.args in
     let l = c.loop-core in
     record {
-      left = followers_next a.memory.now a.states.now a.limit a.vectors.now a.cache.now a.lead c.requires.runnable c.requires.leads l.core (omega arith) (omega arith) l.invariant.left c.follow_if_linked.ensures;
+      left = followers_next a.memory.now a.states.now a.plan.limit a.plan.vectors.now a.cache.now a.lead c.requires.runnable c.requires.leads l.core (omega arith) (omega arith) l.invariant.left c.follow_if_linked.ensures;
       inside = omega arith;
     }
 
@@ -34,4 +34,4 @@ returns c =
     let l = c.loop-core in
     let a = c.args in
     let n : l.core - 1 ≡ core_count a.states.now - 1 = omega arith in
-    l.invariant.left ∙ ap (λ (n : ℕ). followers (board_of (unscheduled a.memory.now a.states.now a.limit a.vectors.now)) a.lead n (shared a.memory.now a.states.now a.cache.now)) n
+    l.invariant.left ∙ ap (λ (n : ℕ). followers (board_of (unscheduled a.memory.now a.states.now a.plan.limit a.plan.vectors.now)) a.lead n (shared a.memory.now a.states.now a.cache.now)) n
