@@ -29,7 +29,8 @@ pub fn execute(
 {
     let kind = (entry / 0x100_0000_0000_0000) as u8;
     let (_, rest) = states.split_at_mut(core as usize * STATE_WORDS);
-    let own = rest.first_chunk_mut().unwrap();
+    let (part, _) = rest.split_at_mut(STATE_WORDS);
+    let own = part.as_mut_array().unwrap();
     let done = perform::perform(board, memory, own, core, kind, entry);
     if let Some(address) = done.stored {
         commit::links::clear_links(states, address / 4 * 4);

@@ -55,7 +55,8 @@ fn instruction(
     ensures { Entered (board_of_code board.entry) memory.old states.old cache.old core given memory.new states.new cache.new result }
 {
     let (_, rest) = states.split_at_mut(usize::from(core) * STATE_WORDS);
-    let own = rest.first_chunk_mut().unwrap();
+    let (part, _) = rest.split_at_mut(STATE_WORDS);
+    let own = part.as_mut_array().unwrap();
     let Some(f) = crate::form::next(memory, cache, own[state::PC] as usize, given) else {
         return Turn::Unfetched(exec::fetch_fault(board.vectors, own, core));
     };
@@ -117,7 +118,8 @@ fn step(
     ensures { Stepped (board_of_code board.entry) memory.old states.old cache.old entry given memory.new states.new cache.new result }
 {
     let (_, rest) = states.split_at_mut(usize::from(entry.core) * STATE_WORDS);
-    let own = rest.first_chunk_mut().unwrap();
+    let (part, _) = rest.split_at_mut(STATE_WORDS);
+    let own = part.as_mut_array().unwrap();
     match begin(own, entry.lines, straight, given) {
         Start::Idle => Turn::Idle,
         Start::Interrupt => Turn::Unfetched(pic::take(board.vectors, own, entry.core)),

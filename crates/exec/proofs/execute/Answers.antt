@@ -2,7 +2,6 @@ use mathlib.Core.Path.{◌≡◌}
 use mathlib.Core.List.{◌++◌}
 use Prim.Native.Nat.{◌^◌, ◌<◌}
 use native.Mathlib.Omega.{arith}
-use lib.ListN.{drop}
 use Rattle.std.proofs.Common.{rules}
 use Rattle.effect.specs.Board.{board_of_code}
 use Rattle.effect.specs.State.{state_words, own_words, with_own_words}
@@ -17,7 +16,7 @@ returns-in-Some c =
     let f : a.entry < 2 ^ 64 = omega (arith, c.ranges) in
     let o : c.unwrap-own.result.now ≡ own_words s a.core = search rules in
     let split = c.split_at_mut-rest.result in
-    let t = split.0.now ++ (done.new.own ++ drop state_words split.1.now) in
+    let t = split.0.now ++ (done.new.own ++ c.split_at_mut-part.result.1.now) in
     let w : t ≡ with_own_words s a.core done.new.own = search rules in
     stored_here s a.core c.requires o w (board_of_code a.board) a.memory.now a.entry f done.ensures c.in-Some.is c.clear_links.ensures
 

@@ -28,7 +28,7 @@ instruction-requires c =
     let h = c.requires.state_words_in_bounds in
     let o : c.unwrap-own.result.now ≡ own_words s a.entry.core = search rules in
     let split = c.split_at_mut-rest.result in
-    let t = split.0.now ++ (begin.new.own ++ drop state_words split.1.now) in
+    let t = split.0.now ++ (begin.new.own ++ c.split_at_mut-part.result.1.now) in
     let w : t ≡ with_own_words s a.entry.core begin.new.own = search rules in
     let q = begun_here s a.entry h o begin.ensures.0 w in
     let n = begun_length s a.entry a.given q in
@@ -57,7 +57,7 @@ returns-in-Interrupt c =
     let h = c.requires.state_words_in_bounds in
     let o : c.unwrap-own.result.now ≡ own_words s a.entry.core = search rules in
     let split = c.split_at_mut-rest.result in
-    let t = split.0.now ++ (c.take.new.own ++ drop state_words split.1.now) in
+    let t = split.0.now ++ (c.take.new.own ++ c.split_at_mut-part.result.1.now) in
     let w : t ≡ with_own_words s a.entry.core c.take.new.own = search rules in
     let n = begun_length s a.entry a.given {t = begun s a.entry} refl in
     let x = raised_here (begun s a.entry) a.entry.core (omega (arith, n, h)) (begun_words s a.entry h o begin.ensures.0) (begun_again s a.entry h o begin.ensures.0 c.take.new.own w) Interrupt eear_at (omega arith) c.take.ensures a.memory.now in
