@@ -217,7 +217,7 @@ pub fn movhi(k: u32) -> u32
     k << 16
 }
 
-// These three, address_add, address_sub and cmov stand for one operator each: public functions with a definition's name.
+// These three, address_add, address_sub and cmov are one operator each: public functions that stand for a definition.
 pub fn and(a: u32, b: u32) -> u32
     ensures { result ≡ bit_and a b }
 {

@@ -94,10 +94,7 @@ fn register_kind(x: u32) -> u8
         return 1;
     }
     if 4 <= high {
-        if low == 15 {
-            return 66; // l.fl1
-        }
-        return 1;
+        return if low == 15 { 66 } else { 1 }; // l.fl1
     }
     match low {
         0..=5 => 48 + low, // l.add, addc, sub, and, or, xor

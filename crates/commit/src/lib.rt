@@ -112,7 +112,8 @@ pub fn write(
 
 // The three below differ in the arm that is likely, which is inlined where they are called. One function with the arm
 // as a closure would be no plainer: the closure's contract says more than the arm.
-// `other` is lent a copy of the action, `rest`, so that a likely one is never laid in memory (3 machine instructions of 80).
+// `other` is lent a copy of the action, `rest`, so that a likely one is never laid in memory (3 machine instructions
+// of 80).
 
 // An action that is likely to go on.
 #[tactic(auto, unfolding(effect::specs::Inner::effect_by, effect::specs::Effect::advances))]

@@ -99,8 +99,8 @@ fn term(a: u32, b: u32) -> u64
 }
 
 impl Accumulator {
-    // Such a term is added, modulo 2^64. It and subtract_product share the term, and differ in one method: a closure for
-    // that would be no plainer.
+    // Such a term is added, modulo 2^64. This and subtract_product share the term and differ in one method: a closure
+    // for it would be no plainer.
     #[tactic(auto, using(crate::proofs::Accumulated::held_sum), unfolding(crate::specs::Accumulate::added))]
     pub fn add_product(self, a: u32, b: u32) -> Accumulator
         ensures { result ≡ added self a b }

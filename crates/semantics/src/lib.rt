@@ -1,6 +1,6 @@
 #![tactic(auto)]
-// What each kind does, a line a kind, in the order of the kinds: the papers' table. The kind is matched at each step and
-// no function is looked up in a table: `rt ci` refuses function pointers handed out, and a call through one costs more.
+// What each kind does, a line a kind, in the order of the kinds: the papers' table. It is matches, and no table of
+// functions: each step would call through a pointer, and `rt ci` refuses function pointers that are handed out.
 ghost use Rattle.std.specs.Prelude.{◌≡◌, ◌-◌, ◌<◌};
 ghost use Rattle.isa.specs.Groups.{first_nop_movhi, first_compare_immediate, first_compare, IsNopMovhi, IsControl, IsLoad, IsAddImmediate, IsImmediate, IsCompareImmediate, IsStore, IsArithmetic, IsLogic, IsCompare, IsCache};
 ghost use Rattle.effect.specs.Inner.{effect_by, goes_on};

@@ -20,9 +20,9 @@ pub returns-then-low-eq15 : goal.returns-then-low-eq15
 unfolding rows fits first_fit kind_of kind_in
 returns-then-low-eq15 c = equal_when (λ x. eqb (x % 16) 15) (λ x. 66) (kind_in 0x38 0) 256 256 tt c.args.x (omega arith) (omega arith) (eq-eqb _ _ c.if-low-eq15.true)
 
-pub returns-then-high-ge4 : goal.returns-then-high-ge4
+pub returns-else-low-eq15 : goal.returns-else-low-eq15
 unfolding rows fits first_fit kind_of kind_in
-returns-then-high-ge4 c = equal_when (λ x. not (eqb (x % 16) 15)) (λ x. 1) (kind_in 0x38 0) 256 256 tt c.args.x (omega arith) (omega arith) (simp (ne_eqb _ _ c.if-low-eq15.false))
+returns-else-low-eq15 c = equal_when (λ x. not (eqb (x % 16) 15)) (λ x. 1) (kind_in 0x38 0) 256 256 tt c.args.x (omega arith) (omega arith) (simp (ne_eqb _ _ c.if-low-eq15.false))
 
 pub returns-in-8 : goal.returns-in-8
 unfolding rows fits first_fit kind_of kind_in
