@@ -11,8 +11,8 @@ use crate::inputs::inputs_at;
 use effect::effects;
 use effect::state::STATE_WORDS;
 use effect::types::{Action, Effect, Outcome, Store, Written};
-use memory::Width;
 use isa::vectors::COUNT;
+use memory::Width;
 
 pub mod inputs;
 pub mod links;
@@ -54,7 +54,12 @@ fn done_by(outcome: Outcome, action: Action) -> Done
 
 // An effect, and what it tells the run.
 #[tactic(auto, unfolding(crate::specs::Commit::memory_after))]
-fn settle(vectors: &[u32; COUNT], memory: &mut [u8], own: &mut [u32; STATE_WORDS], e: Effect) -> Done
+fn settle(
+    vectors: &[u32; COUNT],
+    memory: &mut [u8],
+    own: &mut [u32; STATE_WORDS],
+    e: Effect,
+) -> Done
     requires { Fits (length memory.old) e }
     ensures { Performed vectors.now memory.old own.old e memory.new own.new result }
 {
@@ -83,7 +88,8 @@ fn other(
     outcome
 }
 
-// What is written by an instruction that goes on. Each of these reads its inputs itself, so that nothing is read that it does not use.
+// What is written by an instruction that goes on. Each of these reads its inputs itself, so that nothing is read that it
+// does not use.
 #[tactic(auto, unfolding(effect::specs::Inner::effect_by, effect::specs::Effect::advances))]
 pub fn write(
     vectors: &[u32; COUNT],
@@ -105,8 +111,8 @@ pub fn write(
 }
 
 // The three below differ in the arm that is likely, which is inlined where they are called. One function with the arm
-// as a closure would be no plainer: the closure's contract says more than the arm.
-// `other` is lent a copy of the action, `rest`, so that a likely one is never laid in memory (3 machine instructions of 80).
+// as a closure would be no plainer: the closure's contract says more than the arm. `other` is given `rest`, a copy, so
+// that a likely action is never laid in memory, which would cost up to 5 machine instructions (of 83) a step.
 
 // An action that is likely to go on.
 #[tactic(auto, unfolding(effect::specs::Inner::effect_by, effect::specs::Effect::advances))]

@@ -71,7 +71,11 @@ fn put_raised(vectors: &[u32; vectors::COUNT], own: &mut [u32; state::STATE_WORD
 
 // What is left of an exception, if the step ends in one.
 #[tactic(auto, unfolding(crate::specs::Commit::put_exception))]
-fn put_outcome(vectors: &[u32; vectors::COUNT], own: &mut [u32; state::STATE_WORDS], outcome: Outcome)
+fn put_outcome(
+    vectors: &[u32; vectors::COUNT],
+    own: &mut [u32; state::STATE_WORDS],
+    outcome: Outcome,
+)
     ensures { own.new ≡ put_exception vectors.now outcome own.old 0 }
 {
     if let Err(x) = outcome {
@@ -81,7 +85,11 @@ fn put_outcome(vectors: &[u32; vectors::COUNT], own: &mut [u32; state::STATE_WOR
 
 // The core's own state; answers how the step ends.
 #[tactic(auto, unfolding(crate::specs::Commit::own_state))]
-pub fn commit_state(vectors: &[u32; vectors::COUNT], own: &mut [u32; state::STATE_WORDS], e: Effect) -> Outcome
+pub fn commit_state(
+    vectors: &[u32; vectors::COUNT],
+    own: &mut [u32; state::STATE_WORDS],
+    e: Effect,
+) -> Outcome
     requires { e.place < state_words }
     ensures { Owned vectors.now own.old e own.new result }
 {

@@ -4,8 +4,8 @@ use memory::Width;
 use product::Accumulator;
 
 // Where execution goes on: the next instruction, whether it is in a delay slot, and where it goes after the slot.
-// Here and in Link the words of the state stand as they are: `reads` (commit's definitions) has every word, also one that
-// no bool or Option is read from, and a step would have to make these of the words and turn them back.
+// Here and in Link the words of the state stand as they are: `reads` (commit's definitions) has every word, also one
+// that no bool or Option is read from, and a step would have to make these of the words and turn them back.
 #[derive(Clone, Copy)]
 pub struct Flow {
     pub pc: u32,
@@ -39,8 +39,8 @@ pub struct Exception {
 // How a step ends: in a completed instruction, or in one exception.
 pub type Outcome = Result<(), Exception>;
 
-// What every instruction of a run is given beside its core's state: how many cores there are, how many bytes at the start of memory are read-only, and the
-// list of vectors, lent: by value it would make every step dearer.
+// What every instruction of a run is given beside its core's state: how many cores there are, how many bytes at the
+// start of memory are read-only, and the list of vectors, lent: by value it would make every step dearer.
 #[derive(Clone, Copy)]
 pub struct Board<'a> {
     pub cores: u32,

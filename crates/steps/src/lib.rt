@@ -54,6 +54,7 @@ fn instruction(
     requires pc_aligned { word_at states.old core pc_at % 4 ≡ 0 }
     ensures { Entered (board_of_code board.entry) memory.old states.old cache.old core given memory.new states.new cache.new result }
 {
+    // As exec::execute splits.
     let (_, rest) = states.split_at_mut(usize::from(core) * STATE_WORDS);
     let (part, _) = rest.split_at_mut(STATE_WORDS);
     let own = part.as_mut_array().unwrap();
@@ -76,12 +77,7 @@ pub enum Start {
 
 // Latches the lines of a running core. One in the mode `straight` runs and nothing can interrupt it, so most entries
 // need no test but that of the mode. A linked core executes what is given, if anything is.
-fn begin(
-    own: &mut [u32; STATE_WORDS],
-    lines: u32,
-    straight: u32,
-    given: Option<u64>,
-) -> Start
+fn begin(own: &mut [u32; STATE_WORDS], lines: u32, straight: u32, given: Option<u64>) -> Start
     requires { word_at own.old 0 mode_at ≡ straight → Undisturbed own.old (alone lines) }
     ensures { (own.new ≡ begun own.old (alone lines)) × (result ≡ start_of own.old (alone lines) given) }
 {
@@ -117,6 +113,7 @@ fn step(
     requires undisturbed { word_at states.old entry.core mode_at ≡ straight → Undisturbed states.old entry }
     ensures { Stepped (board_of_code board.entry) memory.old states.old cache.old entry given memory.new states.new cache.new result }
 {
+    // As exec::execute splits.
     let (_, rest) = states.split_at_mut(usize::from(entry.core) * STATE_WORDS);
     let (part, _) = rest.split_at_mut(STATE_WORDS);
     let own = part.as_mut_array().unwrap();
