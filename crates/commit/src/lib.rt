@@ -88,8 +88,8 @@ fn other(
     outcome
 }
 
-// What is written by an instruction that goes on. Each of these reads its inputs itself, so that nothing is read that
-// it does not use.
+// What is written by an instruction that goes on. Each of these reads its inputs itself, so that nothing is read that it
+// does not use.
 #[tactic(auto, unfolding(effect::specs::Inner::effect_by, effect::specs::Effect::advances))]
 pub fn write(
     vectors: &[u32; COUNT],
@@ -111,9 +111,8 @@ pub fn write(
 }
 
 // The three below differ in the arm that is likely, which is inlined where they are called. One function with the arm
-// as a closure would be no plainer: the closure's contract says more than the arm.
-// `other` is lent a copy of the action, `rest`, so that a likely one is never laid in memory (3 machine instructions
-// of 80).
+// as a closure would be no plainer: the closure's contract says more than the arm. `other` is given `rest`, a copy, so
+// that a likely action is never laid in memory, which would cost up to 5 machine instructions (of 83) a step.
 
 // An action that is likely to go on.
 #[tactic(auto, unfolding(effect::specs::Inner::effect_by, effect::specs::Effect::advances))]

@@ -5,7 +5,8 @@ ghost use Rattle.commit.specs.Commit.{clear_link, clear_links, core_count};
 
 use effect::state;
 
-// One core's link, if it is to the word at w.
+// One core's link, if it is to the word at w. By index, since it writes: state::own only reads, so the words would be
+// named in two ways.
 #[tactic(auto, unfolding(crate::specs::Commit::clear_link))]
 fn clear_link(states: &mut [u32], core: usize, w: u32)
     requires { core * state_words + state_words ≤ length states.old }

@@ -16,13 +16,16 @@ use isa::vectors::{COUNT, Cause};
 
 pub mod perform;
 
-// Executes an entry as it stands, whatever word memory holds: on the core's own part of the states, whose words are at fixed places.
+// Executes an entry as it stands, whatever word memory holds: on the core's own part of the states, whose words are at
+// fixed places.
 pub fn execute(board: Board, memory: &mut [u8], states: &mut [u32], core: u8, entry: u64) -> Done
     requires { core * state_words + state_words ≤ length states.old }
     ensures { Executes (board_of_code board.entry) memory.old states.old core entry memory.new states.new result }
 {
     let kind = (entry / 0x100_0000_0000_0000) as u8;
-    let (_, rest) = states.split_at_mut(core as usize * STATE_WORDS);
+    // Split twice here, since effect's state has no own_mut (it says why); first_chunk_mut would test the length at
+    // each step.
+    let (_, rest) = states.split_at_mut(usize::from(core) * STATE_WORDS);
     let (part, _) = rest.split_at_mut(STATE_WORDS);
     let own = part.as_mut_array().unwrap();
     let done = perform::perform(board, memory, own, core, kind, entry);

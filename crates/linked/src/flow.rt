@@ -7,15 +7,16 @@ ghost use Rattle.linked.specs.Linked.{flow_at, with_flow};
 use effect::state;
 use effect::types::Flow;
 
+#[tactic(auto, using(commit::proofs::Own::own_word_at))]
 pub fn of_core(states: &[u32], core: usize) -> Flow
     requires { core * state_words + state_words ≤ length states.now }
     ensures { result ≡ flow_at states.now core }
 {
-    let base = core * state::STATE_WORDS;
+    let own = state::own(states, core);
     Flow {
-        pc: states[base + state::PC],
-        delay: states[base + state::DELAY],
-        target: states[base + state::TARGET],
+        pc: own[state::PC],
+        delay: own[state::DELAY],
+        target: own[state::TARGET],
     }
 }
 

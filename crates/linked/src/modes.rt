@@ -7,11 +7,12 @@ ghost use Rattle.linked.specs.Inner.{any_linked, relinked};
 
 use effect::state;
 
+#[tactic(auto, using(commit::proofs::Own::own_word_at))]
 pub fn is_linked(states: &[u32], core: usize) -> bool
     requires { core * state_words + state_words ≤ length states.now }
     ensures { result ≡ is_linked states.now core }
 {
-    states[core * state::STATE_WORDS + state::MODE] == state::LINKED
+    state::own(states, core)[state::MODE] == state::LINKED
 }
 
 #[tactic(auto, unfolding(crate::specs::Inner::any_linked))]

@@ -54,6 +54,7 @@ fn instruction(
     requires pc_aligned { word_at states.old core pc_at % 4 ≡ 0 }
     ensures { Entered (board_of_code board.entry) memory.old states.old cache.old core given memory.new states.new cache.new result }
 {
+    // As exec::execute splits.
     let (_, rest) = states.split_at_mut(usize::from(core) * STATE_WORDS);
     let (part, _) = rest.split_at_mut(STATE_WORDS);
     let own = part.as_mut_array().unwrap();
@@ -112,6 +113,7 @@ fn step(
     requires undisturbed { word_at states.old entry.core mode_at ≡ straight → Undisturbed states.old entry }
     ensures { Stepped (board_of_code board.entry) memory.old states.old cache.old entry given memory.new states.new cache.new result }
 {
+    // As exec::execute splits.
     let (_, rest) = states.split_at_mut(usize::from(entry.core) * STATE_WORDS);
     let (part, _) = rest.split_at_mut(STATE_WORDS);
     let own = part.as_mut_array().unwrap();

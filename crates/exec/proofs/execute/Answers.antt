@@ -4,7 +4,7 @@ use Prim.Native.Nat.{◌^◌, ◌<◌}
 use native.Mathlib.Omega.{arith}
 use Rattle.std.proofs.Common.{rules}
 use Rattle.effect.specs.Board.{board_of_code}
-use Rattle.effect.specs.State.{state_words, own_words, with_own_words}
+use Rattle.effect.specs.State.{own_words, with_own_words}
 use Rattle.exec.proofs.Executes.{kept_here, stored_here}
 use Rattle.exec.proofs.execute.Goals as goal
 

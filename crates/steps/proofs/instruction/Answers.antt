@@ -2,11 +2,11 @@ use mathlib.Core.List.{List, ◌++◌}
 use mathlib.Core.Path.{◌≡◌, sym, ap, subst, ◌∙◌}
 use Prim.Native.Nat.{ℕ, ◌%◌}
 use native.Mathlib.Omega.{arith}
-use lib.ListN.{get_or, drop}
+use lib.ListN.{get_or}
 use Rattle.std.proofs.Common.{rules}
 use Rattle.isa.specs.declared.vectors.Cause.TheVariants.{Bus}
 use Rattle.effect.specs.Board.{board_of_code}
-use Rattle.effect.specs.State.{state_words, own_words, with_own_words, pc_at}
+use Rattle.effect.specs.State.{own_words, with_own_words, pc_at}
 use Rattle.commit.proofs.Own.{own_word_at, own_same}
 use Rattle.exec.specs.Inner.{Executes}
 use Rattle.exec.proofs.Executes.{raised_here}

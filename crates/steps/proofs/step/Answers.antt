@@ -1,12 +1,11 @@
 use mathlib.Core.Path.{◌≡◌, refl, sym, ap, ◌∙◌}
 use mathlib.Core.List.{◌++◌}
-use lib.ListN.{drop}
 use Prim.Native.Nat.{ℕ, ◌%◌}
 use native.Mathlib.Omega.{arith}
 use Rattle.std.proofs.Common.{rules}
 use Rattle.isa.specs.declared.vectors.Cause.TheVariants.{Interrupt}
 use Rattle.effect.specs.Board.{board_of_code}
-use Rattle.effect.specs.State.{state_words, own_words, with_own_words, pc_at, eear_at}
+use Rattle.effect.specs.State.{own_words, with_own_words, pc_at, eear_at}
 use Rattle.exec.proofs.Executes.{raised_here}
 use Rattle.steps.specs.Inner.{begun}
 use Rattle.steps.proofs.Begins.{undisturbed_here, start_here, begun_here, begun_words, begun_again}
