@@ -112,7 +112,8 @@ pub fn write(
 
 // The three below differ in the arm that is likely, which is inlined where they are called. One function with the arm
 // as a closure would be no plainer: the closure's contract says more than the arm. `other` is given `rest`, a copy, so
-// that a likely action is never laid in memory, which would cost up to 5 machine instructions (of 83) a step.
+// that a likely action is never laid in memory, which would cost up to 5 machine instructions (of 83) a step. That an
+// action fits is a fact of it, its core and memory together (`Fits`), so no type of the action alone can say it.
 
 // An action that is likely to go on.
 #[tactic(auto, unfolding(effect::specs::Inner::effect_by, effect::specs::Effect::advances))]

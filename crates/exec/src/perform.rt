@@ -1,6 +1,7 @@
 #![tactic(auto, using(crate::proofs::Performs::meant), unfolding(effect::specs::Inner::effect_by))]
 // What an entry does to memory and its core's own state, by group of kinds. Each group reads its inputs itself, so that
-// nothing is read that its instructions do not use.
+// nothing is read that its instructions do not use. `memory`, `own`, `core` and `entry` stay parameters: a struct with
+// two `&mut` would be lent anew at each call, and its contracts would speak of references in place of what they hold.
 ghost use Rattle.std.specs.Prelude.{◌≤◌, ◌<◌};
 ghost use Rattle.isa.specs.Groups.{first_add_immediate, first_store, first_compare, first_cache};
 ghost use Rattle.effect.specs.Board.{board_of_code};

@@ -4,6 +4,8 @@ ghost use Rattle.isa.specs.Entry.{fields_of};
 ghost use Rattle.isa.specs.Register.{Registers};
 ghost use Rattle.isa.specs.Inner.{packed};
 
+// That each register is below 32 stands in contracts and not in a ghost field: the papers' definitions build Fields too
+// (`fields_of`, `no_fields`), and each would carry its proof.
 #[derive(Clone, Copy)]
 pub struct Fields {
     pub d: u8,

@@ -141,7 +141,8 @@ fn straight_mode(states: &[u32], levels: &[u32]) -> u32
 
 // The schedule's entries, in order; a linked core's executes the form that is given, if one is. Everything that
 // executes shares this loop: exec::execute has one caller, so the compiler inlines it here. By index, since a zip looks
-// for the end of both lists at each entry. The list of vectors becomes an array here, once for all entries.
+// for the end of both lists at each entry. The list of vectors becomes an array here, once for all entries. `Runnable`
+// stands in the contract of each run, since it is a fact of all that is lent together.
 fn entries(
     memory: &mut [u8],
     states: &mut [u32],
