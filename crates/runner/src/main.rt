@@ -22,8 +22,8 @@ fn read_more<R: Read>(from: &mut R, buf: &mut [u8], at: usize) -> io::Result<usi
 }
 
 // Reads until buf is full or the input ends, and says how many bytes came. A read may hand over a part of what is still to
-// come, so only one without bytes is the end; one that fails is not. A `while`: std's `read_to_end` needs the heap, its
-// `read_exact` fails on a shorter input, and its `copy` reads again where a signal made a read fail.
+// come, so only one without bytes is the end; one that fails is not. A `while`: std's `read_to_end` needs the heap, and
+// its `read_exact` fails on a shorter input.
 fn read_all<R: Read>(from: &mut R, buf: &mut [u8]) -> io::Result<usize>
     ensures { Within 0 buf.new result }
 {
