@@ -8,6 +8,7 @@ ghost use Rattle.text.specs.Inner.{found_in, Inside};
 
 use std::ops::Range;
 
+// The character of a digit. Not char::from_digit, which answers an Option of a char: no plainer for a byte.
 pub fn glyph(d: u8) -> u8
     requires { d < 16 }
     ensures { result ≡ glyphOf d }
