@@ -21,6 +21,7 @@ pub struct Lead {
 
 // An instruction on the core's own registers, with core 0's flow lent. If it raises, the core has its words back and is
 // halted.
+#[tactic(auto, using(commit::proofs::Own::own_length))]
 fn execute(
     memory: &mut [u8],
     states: &mut [u32],
@@ -35,8 +36,7 @@ fn execute(
 {
     let base = core * state::STATE_WORDS;
     let end = base + state::STATE_WORDS;
-    let mut own = [0u32; state::STATE_WORDS];
-    own.copy_from_slice(&states[base..end]);
+    let own = *state::own(states, core);
     flow::put(states, core, lead.before);
     if steps::execute_form(memory, states, core as u8, plan, cache, lead.form) {
         flow::put(states, core, lead.after);
