@@ -14,6 +14,8 @@ use memory::Width;
 // Loads, l.lwa and p.* may be anywhere in memory.
 const NO_LIMIT: u32 = 0;
 
+// Each access below tests, and then goes on or faults: with what goes on as a closure, the five would be no plainer.
+
 fn address(x: Inputs) -> u32
     ensures { result ≡ effective_address x }
 {

@@ -51,6 +51,9 @@ fn set_bit(x: u32, place: u32, v: bool) -> u32
     if v { x | 1 << place } else { x & !(1 << place) }
 }
 
+// The four that read a bit are one call each: a public is_set would make callers name places and ask that they be below
+// 32.
+
 // F, the flag that compares set and branches read.
 pub fn flag(sr: u32) -> bool
     ensures { result ≡ is_set F sr }

@@ -33,7 +33,7 @@ pub struct Row {
     pub meaning: Meaning,
 }
 
-// The length of the schedule's key, by which its digits are found.
+// The length of the schedule's key, by which its digits are found. A number, since a constant calls no function here.
 pub const SCHEDULE_KEY: usize = 9;
 
 pub const LINES: usize = 7;

@@ -20,7 +20,8 @@ pub struct Limits {
     pub multiple: u32,
 }
 
-// What may follow a key.
+// What may follow a key. Decimal and Hexadecimal differ in the form of the text and not only in the base, so a base
+// beside the limits would keep both arms.
 #[derive(Clone, Copy)]
 pub enum Rule {
     Decimal(Limits),
@@ -38,7 +39,8 @@ pub const WORD: Rule = Rule::Hexadecimal(Limits {
     multiple: 1,
 });
 
-// The value on the line at a place, if it has that key, and the place of the next line.
+// The value on the line at a place, if it has that key, and the place of the next line. A place in the whole card, and
+// no slice of its rest: the places of a job count from the card's start (`placed`).
 pub fn value_at(card: &[u8], at: usize, key: &[u8], rule: Rule) -> Result<(u32, usize), Cause>
     requires { Sensible rule }
     ensures { (step_in card.now result ≡ first key.now (text_means rule) (lines (drop at card.now))) × (Ahead card.now at result) }

@@ -88,8 +88,8 @@ fn other(
     outcome
 }
 
-// What is written by an instruction that goes on. Each of these reads its inputs itself, so that nothing is read that it
-// does not use.
+// What is written by an instruction that goes on. Each of these reads its inputs itself, so that nothing is read that
+// it does not use. `memory`, `own`, `core` and `entry` stay parameters for the reason that exec's perform gives.
 #[tactic(auto, unfolding(effect::specs::Inner::effect_by, effect::specs::Effect::advances))]
 pub fn write(
     vectors: &[u32; COUNT],

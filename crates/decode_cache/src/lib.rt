@@ -14,7 +14,8 @@ pub struct Fetched {
     pub reused: bool,
 }
 
-// The entry of word k, if it is filled: one of 0 is empty, and a word outside the cache has none.
+// The entry of word k, if it is filled: one of 0 is empty, since the cache's words are the C interface's; and a word
+// outside the cache has none.
 fn filled_entry(cache: &[u64], k: usize) -> Option<u64>
     ensures { result ≡ filled_at cache.now k }
 {
@@ -44,7 +45,8 @@ fn decoded(memory: &[u8], k: usize) -> u64
 }
 
 // The form of the word at pc, if it is inside memory: its entry, which is filled if it was empty. A filled entry is of
-// a word inside.
+// a word inside. That a cache is Backed is a fact of it and memory together, so no type of the cache can say it; of pc
+// a u32 would say one half of its clause, and be cast at each use.
 pub fn fetch(memory: &[u8], cache: &mut [u64], pc: usize) -> Option<Fetched>
     requires backed { Backed cache.old memory.now }
     requires word_address { (pc % 4 ≡ 0) × (pc < 2 ^ 32) }

@@ -31,6 +31,7 @@ fn no_link() -> Link
 
 // ---- completed instructions
 
+// `place`, `value` and `sr` stay apart, as in `completed`: few callers have a Written at hand.
 fn complete(
     place: u32,
     value: u32,

@@ -40,9 +40,10 @@ pub const LINKED: u32 = 1;
 
 pub const RUNNING: u32 = 3;
 
-// A core's own words among those of all. By two splits the compiler knows the length, and no test of it is left.
-// There is no own_mut: the kit proves no lend of a part that starts at an index (tried a range, two splits, and a split
-// and first_chunk_mut in one expression). So what writes goes by index, or splits where it stands.
+// A core's own words among those of all. By two splits the compiler knows the length, and no test of it is left. There
+// is no own_mut: the kit proves no lend of a part that starts at an index (tried a range, two splits, and a split and
+// first_chunk_mut in one expression). So what writes goes by index, or splits where it stands. That a core's words lie
+// in the states is a fact of a number and a slice together, so each contract says it.
 pub fn own(states: &[u32], core: usize) -> &[u32; STATE_WORDS]
     requires { core * state_words + state_words ≤ length states.now }
     ensures { result.now ≡ own_words states.now core }

@@ -68,7 +68,9 @@ pub struct Inputs {
 }
 
 // What an instruction does: the one word of its state that it writes besides SR, the flow, the link, the mode and the
-// accumulator; what MACHI and MACLO become, if they do not stay; its store, if it stores; how it ends.
+// accumulator; what MACHI and MACLO become, if they do not stay; its store, if it stores; how it ends. One that writes
+// no word writes 0 to r0, as in the definitions (`completed`, `raises`): an Option would say no more. That a place lies
+// in a state stands in contracts and in no ghost field, since the definitions build Effects too.
 #[derive(Clone, Copy)]
 pub struct Effect {
     pub place: u32,

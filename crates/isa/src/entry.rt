@@ -14,7 +14,8 @@ pub struct Fields {
     pub immediate: u32,
 }
 
-// The entry of kind k with these fields.
+// The entry of kind k with these fields. Functions and no From: an entry holds a kind beside the fields, and pack asks
+// for registers.
 pub fn pack(k: u8, f: Fields) -> u64
     requires { Registers f }
     ensures { result ≡ packed k f }

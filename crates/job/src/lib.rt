@@ -56,7 +56,8 @@ fn fill(card: &[u8], from: usize, n: u32, image: &mut [u8])
     }
 }
 
-// The core of each step of a good job.
+// The core of each step of a good job. By index: the digits begin again after the last, and a zip with a cycle would be
+// no plainer.
 pub fn schedule(card: &[u8], job: Job, out: &mut [u8])
     requires { (0 < job.digits) × (job.schedule + job.digits ≤ length card.now) × (job.steps ≤ length out.old) }
     ensures { out.new ≡ sets out.old 0 (entries (schedule_at card.now job) job.steps) }

@@ -55,10 +55,7 @@ fn call(states: &mut [u32], core: usize, lead: Lead)
     requires { core * state_words + state_words ≤ length states.old }
     ensures { states.new ≡ with_flow (put states.old core 9 (address_sum lead.before.pc 8)) core lead.after }
 {
-    states[core * state::STATE_WORDS + LINK_REGISTER] = std::num::wrapping_add_u32(
-        lead.before.pc,
-        8,
-    );
+    states[core * state::STATE_WORDS + LINK_REGISTER] = lead.before.pc.wrapping_add(8);
     flow::put(states, core, lead.after);
 }
 

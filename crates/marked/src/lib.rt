@@ -1,2 +1,3 @@
 #![tactic(auto)]
-// No code: document 01's marked examples, and the proof that the definitions agree with each, stand in specs/ and proofs/.
+// No code: document 01's marked examples, and the proof that the definitions agree with each, stand in specs/ and
+// proofs/.

@@ -42,7 +42,8 @@ pub fn test(limit: u32, len: usize, address: u32, width: Width) -> Result<(), Ca
     Ok(())
 }
 
-// The word at an address, as a fetch reads it. Word number k is the one at 4 * k.
+// The word at an address, as a fetch reads it. Word number k is the one at 4 * k. That an access lies inside is a fact
+// of memory, address and width together, so each contract below says it; `test` finds it out.
 #[tactic(auto, unfolding(crate::specs::Memory::loaded))]
 pub fn load_word(mem: &[u8], at: usize) -> u32
     requires { at + 4 ≤ length mem.now }

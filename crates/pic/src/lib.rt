@@ -36,7 +36,7 @@ fn high(levels: &[u32]) -> u32
     levels.iter().fold(0, |high, lines| high | *lines)
 }
 
-// No line is latched of any core. By index: with state::own the law of `all` does not close (tried with own_word_at).
+// No line is latched of any core. By index: one word of each core is read, so state::own would be no plainer.
 #[tactic(auto, unfolding(crate::specs::Inner::none_latched))]
 fn none_latched(states: &[u32]) -> bool
     ensures { result ≡ none_latched states.now }

@@ -38,8 +38,8 @@ struct Ran<'a> {
     states: &'a [u32],
 }
 
-// The run of a good card's job, with its memory laid out in the image: all lines are low, and the run starts from an empty
-// decode cache.
+// The run of a good card's job, with its memory laid out in the image: all lines are low, and the run starts from an
+// empty decode cache.
 fn run_job<'a>(
     vectors: &[u32],
     card: &[u8],
@@ -90,8 +90,8 @@ fn run<'a>(
     Ok(run_job(&list, card, job, &mut image, states))
 }
 
-// What the runner prints for a file of vectors and a card, and how many bytes that is; or that the bytes lent are too few
-// for the longest output, and nothing is written.
+// What the runner prints for a file of vectors and a card, and how many bytes that is; or that the bytes lent are too
+// few for the longest output, and nothing is written.
 pub fn run_card(source: Source<'_>, card: &[u8], out: &mut [u8]) -> Result<usize, TooSmall>
     ensures { Printed (output (file_of source.entry) card.now) out.old out.new result }
 {

@@ -1,12 +1,12 @@
 #![tactic(auto)]
-// A writer of text into bytes that the caller lends.
-// Not std's `write!`: its contract says what was written if it succeeds, and of no writer that it does succeed. `answer`
-// in report promises the text wherever there is room.
+// A writer of text into bytes that the caller lends. Not std's `write!`: its contract says what was written if it
+// succeeds, and of no writer that it does succeed. `answer` in report promises the text wherever there is room.
 ghost use Rattle.std.specs.Prelude.{◌≡◌, ◌++◌, ◌+◌, ◌≤◌, ◌<◌, length};
 ghost use Rattle.print.specs.Digits.{digits, decimal_places, decimal, hexadecimal};
 ghost use Rattle.print.specs.Inner.{Puts, Fits};
 
-// The next text goes into `out` from `at` on.
+// The next text goes into `out` from `at` on. That there is room (`Fits`) is a fact of a writer and a text together, so
+// each contract says it.
 #[derive(Drop)]
 pub struct Writer<'a> {
     out: &'a mut [u8],

@@ -14,7 +14,8 @@ pub mod schedule;
 pub mod states;
 
 // What a run only reads of what it is lent: for each entry a core and the levels of the lines; the limit below which
-// memory is read-only; the list of vectors.
+// memory is read-only; the list of vectors. Memory, states and cache stay beside it: a struct with `&mut` would be lent
+// anew at each call.
 #[derive(Clone, Copy)]
 pub struct Plan<'a> {
     pub schedule: &'a [u8],

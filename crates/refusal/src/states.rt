@@ -64,6 +64,7 @@ fn state_accepted(states: &[u32], core: usize) -> bool
     state_obeys(state::own(states, core), core)
 }
 
+// Not by `all` over the range: tried, and the law from std's list_all to `every_below` did not close.
 pub fn states_accepted(states: &[u32]) -> bool
     ensures { (board : Board) → result ≡ states_obey board states.now }
 {

@@ -119,8 +119,8 @@ fn put_refusal(w: &mut Writer<'_>, number: u32, line: u32)
     w.put(b"\n");
 }
 
-// Writes a run's counts, its cores with their registers, and `end`, and says how many bytes that is. Words of states after
-// the last whole state are not read.
+// Writes a run's counts, its cores with their registers, and `end`, and says how many bytes that is. Words of states
+// after the last whole state are not read.
 pub fn write_result(out: &mut [u8], counts: Counts, states: &[u32]) -> Result<usize, TooSmall>
     ensures answered { result ≡ answer (result_room (cores_of states.now)) (result_text counts states.now) out.old }
     ensures left { out.new ≡ written (result_room (cores_of states.now)) (result_text counts states.now) out.old }
@@ -134,7 +134,8 @@ pub fn write_result(out: &mut [u8], counts: Counts, states: &[u32]) -> Result<us
     Ok(w.len())
 }
 
-// The number by which a job is refused, and the line of its card.
+// The number by which a job is refused, and the line of its card. A number, and no card::Cause: the promise
+// (`refusal_text`) is of every number, and report does not know cards.
 pub fn write_refusal(out: &mut [u8], number: u32, line: u32) -> Result<usize, TooSmall>
     ensures answered { result ≡ answer refusal_room (refusal_text number line) out.old }
     ensures left { out.new ≡ written refusal_room (refusal_text number line) out.old }

@@ -1,6 +1,6 @@
 #![tactic(auto)]
-// The runner: a run card on standard input and a file `vectors`, if there is one, in the current directory; what it prints
-// on standard output, and what went wrong on standard error.
+// The runner: a run card on standard input and a file `vectors`, if there is one, in the current directory; what it
+// prints on standard output, and what went wrong on standard error.
 ghost use Rattle.std.specs.Prelude.{◌≡◌, ◌≤◌, length};
 ghost use Rattle.vectors_file.specs.Answer.{file_of};
 ghost use Rattle.runner.specs.Inner.{Within, More, unopened_by, opened_by};
@@ -21,9 +21,9 @@ fn read_more<R: Read>(from: &mut R, buf: &mut [u8], at: usize) -> io::Result<usi
     from.read(&mut buf[at..])
 }
 
-// Reads until buf is full or the input ends, and says how many bytes came. A read may hand over a part of what is still to
-// come, so only one without bytes is the end; one that fails is not. A `while`: std's `read_to_end` needs the heap, and
-// its `read_exact` fails on a shorter input.
+// Reads until buf is full or the input ends, and says how many bytes came. A read may hand over a part of what is still
+// to come, so only one without bytes is the end; one that fails is not. A `while`: std's `read_to_end` needs the heap,
+// and its `read_exact` fails on a shorter input.
 fn read_all<R: Read>(from: &mut R, buf: &mut [u8]) -> io::Result<usize>
     ensures { Within 0 buf.new result }
 {

@@ -31,7 +31,8 @@ fn is_new(list: &[u32], i: usize) -> bool
     !list[..i].contains(&list[i])
 }
 
-// The first place whose address stands above it.
+// The first place whose address stands above it. A `for`: tried with `find`, whose law, from what it ran over to
+// `first_repeat`, did not close.
 pub fn first_repeat(list: &[u32]) -> Option<usize>
     ensures { (result ≡ repeat_in list.now) × IfSome result (λ i. i < length list.now) }
 {
