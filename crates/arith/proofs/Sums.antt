@@ -7,12 +7,22 @@ use borrow.Author.Tests.{lt-leb}
 use Rattle.std.specs.Bool.{FalseIff}
 use Rattle.bits.specs.Word.{bit, signed, word}
 use Rattle.bits.proofs.Extend.{signed_word}
-use Rattle.arith.specs.Sums.{fits, address_sum}
+use Rattle.arith.specs.Sums.{fits, sum, difference, address_sum}
 use Rattle.arith.specs.declared.Flagged.{Flagged}
 use Rattle.arith.proofs.Bit.{bit_lt, bit_byte}
 use Rattle.arith.proofs.Integer.{by_sign, sub_add, sub_sub, sub_le, sub_lt, sub_zero}
+use Rattle.arith.proofs.Signed.{word_lt}
 
 -- ---- for callers
+
+-- a result is a word; its flags are booleans
+pub sum_ranged : (a b : ℕ) (c : Bool) → (sum a b c).value < 2 ^ 32
+unfolding sum
+sum_ranged a b c = omega arith
+
+pub difference_ranged : (a b : ℕ) → (difference a b).value < 2 ^ 32
+unfolding difference
+difference_ranged a b = word_lt (pos a -ℤ pos b)
 
 -- the low 32 bits of a difference, in natural numbers
 pub word_sub : (a b : ℕ) → a < 2 ^ 32 → b < 2 ^ 32 → word (pos a -ℤ pos b) ≡ (a + 2 ^ 32 - b) % 2 ^ 32

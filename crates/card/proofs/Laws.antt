@@ -14,7 +14,7 @@ use Rattle.bits.proofs.Tests.{and_left, and_right, of_T, all_entries, at_entry}
 use Rattle.text.specs.Ascii.{ascii}
 use Rattle.text.specs.Lines.{Line, ended, cut, onto, lines, entry_of}
 use Rattle.text.specs.Inner.{line_end, found_in}
-use Rattle.std.specs.declared.ops.Range.{Range}
+use Rattle.text.specs.declared.Found.{Found}
 use Rattle.std.specs.Prelude.{Option}
 use Rattle.card.specs.Card.{Field, Step, step, stop, read, first, word, word_lines, no_line_left, Left, Verdict, good, refused, form_fault}
 use Rattle.std.specs.List.{list_all}
@@ -28,7 +28,7 @@ use Rattle.card.specs.declared.value.Rule.{Rule}
 use Rattle.card.specs.declared.value.Rule.TheVariants.{Decimal, Hexadecimal, Status, Digits}
 
 -- the line that was found, or was not
-pub first_found : {A : Type 0} (key : List ℕ) (f : List ℕ → Field A) (s : List ℕ) (ls : List Line) {a b : Option (Range ℕ)} → found_in s a ≡ entry_of key ls → a ≡ b
+pub first_found : {A : Type 0} (key : List ℕ) (f : List ℕ → Field A) (s : List ℕ) (ls : List Line) {a b : Option Found} → found_in s a ≡ entry_of key ls → a ≡ b
     → first key f ls ≡ read f (found_in s b)
 first_found key f s ls e g = ap (read f) (sym e ∙ ap (found_in s) g)
 

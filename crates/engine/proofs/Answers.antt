@@ -1,4 +1,5 @@
 -- What is not refused can be run, and what a run leaves is not refused; the answer. Assumes nothing.
+use mathlib.Core.Bool.{false}
 use mathlib.Core.List.{List, []}
 use mathlib.Core.Path.{◌≡◌, refl, sym, ap, ap₂, subst, ◌∙◌}
 use Prim.Native.Nat.{ℕ, ◌+◌, ◌/◌}
@@ -18,13 +19,14 @@ use Rattle.decode_cache.specs.Inner.{Backed}
 use Rattle.lawful.specs.Accepted.{accepted, AllAccepted}
 use Rattle.lawful.proofs.Accepted.{accepted_means, means_accepted}
 use Rattle.refusal.specs.Lent.{Lent, Left, left, board_of}
-use Rattle.refusal.specs.Refusal.{max_schedule, states_obey, schedule_fits, names_cores, levels_fit, cache_fits, entry_right, entries_right, every_from, plain_refusal, fast_refusal}
+use Rattle.refusal.specs.Refusal.{max_schedule, states_obey, schedule_fits, names_cores, levels_fit, cache_fits, entry_right, entries_right, every_from, plain_refusal, fast_refusal, refusal_number}
+use Rattle.refusal.specs.declared.cause.Refusal.{Refusal}
 use Rattle.refusal.proofs.Tests.{from_at, of_from}
-use Rattle.refusal.proofs.Passes.{Passes, CachePasses, plain_passes, fast_then_plain, cache_passes, none_refused, cores_fit}
+use Rattle.refusal.proofs.Passes.{Passes, CachePasses, plain_passes, fast_then_plain, cache_passes, none_refused, cause_number, cores_fit}
 use Rattle.steps.specs.Plain.{Plain, scheduled_by}
 use Rattle.steps.specs.Fast.{Fast}
 use Rattle.steps.specs.History.{History, entries_from}
-use Rattle.steps.specs.Counts.{no_counts}
+use Rattle.steps.specs.Counts.{AtMost, no_counts}
 use Rattle.steps.specs.Inner.{fast_of, Runnable, Right}
 use Rattle.steps.specs.declared.counts.Counts.{Counts}
 use Rattle.steps.proofs.Agree.{Agrees}
@@ -33,7 +35,7 @@ use Rattle.linked.specs.Run.{start, plain_run, history}
 use Rattle.linked.specs.Inner.{Finished}
 use Rattle.linked.proofs.Agree.{from_agrees, from_uncached, from_accepted}
 use Rattle.engine.specs.Answer.{cache_left, again, PlainAnswer, FastAnswer}
-use Rattle.std.specs.Prelude.{Ok}
+use Rattle.std.specs.Prelude.{Ok, Err}
 
 -- ---- what is not refused
 
@@ -123,6 +125,9 @@ module _ (l : Lent) (cache : List ℕ) (z : fast_refusal l cache ≡ 0) where
 
 -- ---- the answers
 
+none_small : AtMost max_schedule no_counts
+none_small = record { executed_le = omega arith; raised_le = omega arith; reused_le = omega arith }
+
 module _ (l : Lent) where
   -- with an empty cache
   pub plain_ran : (mem' s' cache' : List ℕ) (n : Counts) → plain_refusal l ≡ 0 → Finished l [] mem' s' cache' n → PlainAnswer l (left mem' s') (Ok n)
@@ -136,7 +141,29 @@ module _ (l : Lent) where
         small = e.small;
       }
 
+  -- a refused run writes nothing that is lent
+  pub plain_refused : (cause : Refusal) → refusal_number cause ≡ plain_refusal l → PlainAnswer l (left l.memory l.states) (Err cause)
+  plain_refused cause e = record {
+    refusal = e;
+    left = rw (ne_eqb (plain_refusal l) 0 (λ z. cause_number cause (e ∙ z)));
+    none_reused = refl;
+    small = none_small;
+  }
+
   module _ (cache : List ℕ) where
+    pub fast_refused : (cause : Refusal) → refusal_number cause ≡ fast_refusal l cache
+        → FastAnswer l cache (left l.memory l.states) cache (Err cause)
+    fast_refused cause e =
+        let n : eqb (fast_refusal l cache) 0 ≡ false = ne_eqb (fast_refusal l cache) 0 (λ z. cause_number cause (e ∙ z)) in
+        record {
+          refusal = e;
+          left = rw n;
+          cache_left_lem = rw n;
+          reused_count = rw n;
+          small = none_small;
+          accepted_again = λ z. absurd (cause_number cause (e ∙ z));
+        }
+
     pub fast_ran : (mem' s' cache' : List ℕ) (n : Counts) → fast_refusal l cache ≡ 0 → Finished l cache mem' s' cache' n
         → length mem' ≡ length l.memory → length s' ≡ length l.states → length cache' ≡ length cache
         → FastAnswer l cache (left mem' s') cache' (Ok n)

@@ -102,16 +102,23 @@ module _ (s : List ℕ) (core : ℕ) (h : core * state_words + state_words ≤ l
         → Executed board.vectors mem s core (effect_of board mem s core entry) mem' s' r
     stored_here = executed_stored s core performed_here committed_here
 
-  -- an exception in an instruction's place, with the word at a place in EEAR
+  -- an exception in an instruction's place, whatever goes to EEAR
+  pub raised_anywhere : (cause : Cause) (eear : ℕ) {vectors : List ℕ} {r : Outcome}
+      → Owned vectors own (faults (inputs own 0 no_fields) cause eear) own' r
+      → (mem : List ℕ) → Executed vectors mem s core (faults (inputs s core no_fields) cause eear) mem s₁ (tells r no_store)
+  unfolding inputs raises restart
+  raised_anywhere cause eear {vectors} {r} p =
+      let e' : Effect = faults (inputs s core no_fields) cause eear in
+      let n : Registers no_fields = record { d = omega arith; a = omega arith; b = omega arith } in
+      let x = ap (λ (own : List ℕ). own_inputs own core no_fields) o ∙ own_inputs_at s core h no_fields n in
+      let q : Owned vectors own (faults (own_inputs own core no_fields) cause eear) own' r = p in
+      let p = owned_as (ap (λ (x : Inputs). faults x cause eear) x) q in
+      λ mem. executed_kept s core (kept p refl mem) (w ∙ own_committed s core h vectors e' (omega arith) (p.left ∙ ap (λ (own : List ℕ). own_state vectors own 0 e') o)) refl
+
+  -- the same with the word at a place
   pub raised_here : (cause : Cause) (place : ℕ) → place < state_words → {vectors : List ℕ} {r : Outcome}
       → Owned vectors own (faults (inputs own 0 no_fields) cause (word_at own 0 place)) own' r
       → (mem : List ℕ) → Executed vectors mem s core (faults (inputs s core no_fields) cause (word_at s core place)) mem s₁ (tells r no_store)
-  unfolding inputs raises restart
   raised_here cause place l {vectors} {r} p =
-      let e' : Effect = faults (inputs s core no_fields) cause (word_at s core place) in
-      let n : Registers no_fields = record { d = omega arith; a = omega arith; b = omega arith } in
-      let x = ap (λ (own : List ℕ). own_inputs own core no_fields) o ∙ own_inputs_at s core h no_fields n in
       let v = ap (λ (i : ℕ). get_or own i 0) (zero-add place) ∙ ap (λ (own : List ℕ). get_or own place 0) o ∙ own_word_at s core h place l in
-      let q : Owned vectors own (faults (own_inputs own core no_fields) cause (word_at own 0 place)) own' r = p in
-      let p = owned_as (ap₂ (λ (x : Inputs) (eear : ℕ). faults x cause eear) x v) q in
-      λ mem. executed_kept s core (kept p refl mem) (w ∙ own_committed s core h vectors e' (omega arith) (p.left ∙ ap (λ (own : List ℕ). own_state vectors own 0 e') o)) refl
+      raised_anywhere cause (word_at s core place) (owned_as (ap (λ (eear : ℕ). faults (inputs own 0 no_fields) cause eear) v) p)

@@ -19,6 +19,17 @@ pub struct Lead {
     pub after: Flow,
 }
 
+// Copies the words of one part over those of another. By a loop, since copy_from_slice is a call of memcpy, which C's
+// archive would need from outside.
+fn copy(from: &[u32], to: &mut [u32])
+    requires { length from.now ≡ length to.old }
+    ensures { to.new ≡ from.now }
+{
+    for i in 0..from.len() {
+        to[i] = from[i];
+    }
+}
+
 // An instruction on the core's own registers, with core 0's flow lent. If it raises, the core has its words back and is
 // halted.
 #[tactic(auto, using(commit::proofs::Own::own_length))]
@@ -36,14 +47,15 @@ fn execute(
 {
     let base = core * state::STATE_WORDS;
     let end = base + state::STATE_WORDS;
-    let own = *state::own(states, core);
+    let mut own = [0; state::STATE_WORDS];
+    copy(&states[base..end], &mut own);
     flow::put(states, core, lead.before);
     if steps::execute_form(memory, states, core as u8, plan, cache, lead.form) {
         flow::put(states, core, lead.after);
         modes::relink(states, core);
         return;
     }
-    states[base..end].copy_from_slice(&own);
+    copy(&own, &mut states[base..end]);
     modes::halt(states, core);
 }
 

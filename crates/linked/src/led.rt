@@ -61,13 +61,17 @@ fn entry(
     requires { Runnable (lent memory.old states.old (core ∷ []) (lines ∷ []) plan.limit plan.vectors.now) cache.old }
     ensures { Led (lent memory.old states.old (core ∷ []) (lines ∷ []) plan.entry.limit plan.entry.vectors.now) cache.old (record { core = core; lines = lines }) memory.new states.new cache.new result }
 {
-    let before = flow::of_core(states, 0);
-    let form = decode_cache::peek(memory, cache, before.pc as usize);
     let once = Plan {
         schedule: &[core],
         levels: &[lines],
         ..plan
     };
+    // Another core's entry is never shared, and nothing of core 0 is read for it.
+    if core != 0 {
+        return steps::run(memory, states, once, cache);
+    }
+    let before = flow::of_core(states, 0);
+    let form = decode_cache::peek(memory, cache, before.pc as usize);
     let counts = steps::run(memory, states, once, cache);
     if !was_shared(core, counts) {
         return counts;

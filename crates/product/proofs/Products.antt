@@ -3,9 +3,19 @@ use Rattle.std.proofs.Common.{◌≡◌, ℕ, suc, ◌+◌, ◌-◌, ◌*◌, �
 use borrow.Author.Tests.{lt-leb}
 use Rattle.std.specs.Bool.{FalseIff}
 use Rattle.bits.specs.Word.{signed, word}
-use Rattle.arith.proofs.Signed.{cast_back, cast_wide, overflowed}
-use Rattle.product.specs.Product.{product, quotient}
+use Rattle.arith.proofs.Signed.{cast_back, cast_wide, overflowed, word_lt}
+use Rattle.product.specs.Product.{product, product_unsigned, quotient}
 use Rattle.product.proofs.Signs.{word_neg, by_signs}
+
+-- ---- for callers: a result is a word; its flags are booleans
+
+pub product_ranged : (a b : ℕ) → (product a b).value < 2 ^ 32
+unfolding product
+product_ranged a b = word_lt (signed 32 a *ℤ signed 32 b)
+
+pub product_unsigned_ranged : (a b : ℕ) → (product_unsigned a b).value < 2 ^ 32
+unfolding product_unsigned
+product_unsigned_ranged a b = omega arith
 
 -- ---- "For l.div 80000000 by ffffffff gives 80000000."
 

@@ -142,30 +142,34 @@ fn straight_mode(states: &[u32], levels: &[u32]) -> u32
 // The schedule's entries, in order; a linked core's executes the form that is given, if one is. Everything that
 // executes shares this loop: exec::execute has one caller, so the compiler inlines it here. By index, since a zip looks
 // for the end of both lists at each entry. The list of vectors becomes an array here, once for all entries. `Runnable`
-// stands in the contract of each run, since it is a fact of all that is lent together.
+// stands in the contract of each run, since it is a fact of all that is lent together. The parts of a plan are
+// parameters: a plan would be laid in memory and read back at each call, and linked cores make a call an instruction.
 fn entries(
     memory: &mut [u8],
     states: &mut [u32],
-    plan: Plan<'_>,
+    schedule: &[u8],
+    levels: &[u32],
+    limit: u32,
+    vectors: &[u32],
     cache: &mut [u64],
     given: Option<u64>,
 ) -> Counts
-    requires runnable { Runnable (lent_by memory.old states.old plan) cache.old }
+    requires runnable { Runnable (lent memory.old states.old schedule.now levels.now limit vectors.now) cache.old }
     requires form { IfSome given IsForm }
-    ensures { Finished (lent_by memory.old states.old plan.entry) given cache.old memory.new states.new cache.new result }
+    ensures { Finished (lent memory.old states.old schedule.now levels.now limit vectors.now) given cache.old memory.new states.new cache.new result }
 {
     let cores = states.len() / STATE_WORDS;
     let board = Board {
         cores: cores as u32,
-        limit: plan.limit,
-        vectors: plan.vectors.as_array().unwrap(),
+        limit,
+        vectors: vectors.as_array().unwrap(),
     };
-    let straight = straight_mode(states, plan.levels);
+    let straight = straight_mode(states, levels);
     let mut counts = Counts::default();
-    for i in 0..plan.schedule.len() {
+    for i in 0..schedule.len() {
         let entry = Scheduled {
-            core: plan.schedule[i],
-            lines: plan.levels[i],
+            core: schedule[i],
+            lines: levels[i],
         };
         let turn = step(board, memory, states, cache, entry, straight, given);
         counts = counts.after(turn);
@@ -178,7 +182,16 @@ pub fn run(memory: &mut [u8], states: &mut [u32], plan: Plan<'_>, cache: &mut [u
     requires { Runnable (lent_by memory.old states.old plan) cache.old }
     ensures { Finished (lent_by memory.old states.old plan.entry) None cache.old memory.new states.new cache.new result }
 {
-    entries(memory, states, plan, cache, None)
+    entries(
+        memory,
+        states,
+        plan.schedule,
+        plan.levels,
+        plan.limit,
+        plan.vectors,
+        cache,
+        None,
+    )
 }
 
 // A linked core executes a form as it stands, under the plan's limit and vectors; whether it completes.
@@ -195,11 +208,15 @@ pub fn execute_form(
     requires form { IsForm form }
     ensures { FormExecuted (lent memory.old states.old (core ∷ []) (0 ∷ []) plan.entry.limit plan.entry.vectors.now) cache.old core form memory.new states.new cache.new result }
 {
-    let once = Plan {
-        schedule: &[core],
-        levels: &[0],
-        ..plan
-    };
-    let counts = entries(memory, states, once, cache, Some(form));
+    let counts = entries(
+        memory,
+        states,
+        &[core],
+        &[0],
+        plan.limit,
+        plan.vectors,
+        cache,
+        Some(form),
+    );
     counts.raised == 0
 }

@@ -6,7 +6,12 @@ ghost use Rattle.text.specs.Numbers.{number as number_of, decimal as decimalOf, 
 ghost use Rattle.text.specs.Lines.{lines, entry_of};
 ghost use Rattle.text.specs.Inner.{found_in, Inside};
 
-use std::ops::Range;
+// Where a text was found: from a place up to another. Not std's Range, which is not Copy.
+#[derive(Clone, Copy)]
+pub struct Found {
+    pub start: usize,
+    pub end: usize,
+}
 
 // The character of a digit. Not char::from_digit, which answers an Option of a char: no plainer for a byte.
 pub fn glyph(d: u8) -> u8
@@ -72,7 +77,7 @@ fn line_length(text: &[u8]) -> Option<usize>
 }
 
 // Where what follows a key stands on the line at a place.
-pub fn find_entry(text: &[u8], at: usize, key: &[u8]) -> Option<Range<usize>>
+pub fn find_entry(text: &[u8], at: usize, key: &[u8]) -> Option<Found>
     ensures { (found_in text.now result ≡ entry_of key.now (lines (drop at text.now))) × (Inside key.now text.now at result) }
 {
     let rest = text.get(at..)?;
@@ -80,5 +85,8 @@ pub fn find_entry(text: &[u8], at: usize, key: &[u8]) -> Option<Range<usize>>
     if !rest[..length].starts_with(key) {
         return None;
     }
-    Some(at + key.len()..at + length)
+    Some(Found {
+        start: at + key.len(),
+        end: at + length,
+    })
 }

@@ -1,6 +1,8 @@
 use Prim.Native.Nat.{◌+◌}
 use lib.ListN.{drop, get_or, drop_of_length-le}
 use native.Mathlib.Omega.{arith}
+use Rattle.std.proofs.Common.{rules}
+use Rattle.print.specs.Inner.{Puts}
 use Rattle.print.proofs.Stores.{rest_put, rest_room, rest_none}
 use Rattle.report.specs.Result.{register_line, register_lines}
 use Rattle.report.proofs.Lines.{next_register, no_register}
@@ -10,14 +12,17 @@ pub put_register-requires : goal.put_register-requires
 put_register-requires c =
     let l = c.loop-number in
     let v = c.args.values.now in
-    rest_room (register_line l.number (get_or v l.number 0)) (register_lines (l.number + 1) (drop (l.number + 1) v)) l.invariant
-    (next_register v l.number c.loop-number-test.true) c.requires
+    let room = rest_room (register_line l.number (get_or v l.number 0)) (register_lines (l.number + 1) (drop (l.number + 1) v)) l.invariant
+    (next_register v l.number c.loop-number-test.true) c.requires in
+    search (rules, room)
 
 pub loop-number-preserved : goal.loop-number-preserved
 loop-number-preserved c =
     let l = c.loop-number in
     let v = c.args.values.now in
-    rest_put (register_lines (l.number + 1) (drop (l.number + 1) v)) l.invariant (next_register v l.number c.loop-number-test.true) c.put_register.ensures
+    let put = c.put_register.ensures in
+    let put : Puts l.w (register_line l.number (get_or v l.number 0)) c.put_register.new.w = search (rules, put) in
+    rest_put (register_lines (l.number + 1) (drop (l.number + 1) v)) l.invariant (next_register v l.number c.loop-number-test.true) put
 
 pub returns : goal.returns
 returns c =

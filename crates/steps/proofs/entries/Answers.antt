@@ -1,8 +1,8 @@
 use Rattle.std.proofs.Common.{rules}
 use mathlib.Core.Path.{◌≡◌, refl, sym, ap, ◌∙◌}
-use Prim.Native.Nat.{◌<◌}
+use Prim.Native.Nat.{◌<◌, ◌≤◌}
 use native.Mathlib.Omega.{arith}
-use lib.ListN.{get_or}
+use lib.ListN.{get_or, length}
 use Rattle.commit.specs.Commit.{core_count}
 use Rattle.pic.proofs.Silent.{quiet_latched, quiet_low}
 use Rattle.steps.specs.Inner.{fast_of, given_from}
@@ -25,27 +25,29 @@ loop-i-init c =
 pub step-turn-requires-clause-pc_aligned : goal.step-turn-requires-clause-pc_aligned
 step-turn-requires-clause-pc_aligned c =
     let l = c.loop-i in
-    let n = c.requires.runnable.cores_there l.i c.loop-i-test.true in
+    let t : l.i < length c.args.schedule.now = search rules in
+    let n = c.requires.runnable.cores_there l.i t in
     (l.invariant.accepted _ (omega (arith, n))).flow_lawful.pc_multiple
 
 pub step-turn-requires-clause-undisturbed : goal.step-turn-requires-clause-undisturbed
 step-turn-requires-clause-undisturbed c =
     let l = c.loop-i in
-    let core = get_or c.args.plan.schedule.now l.i 0 in
-    let n = c.requires.runnable.cores_there l.i c.loop-i-test.true in
+    let core = get_or c.args.schedule.now l.i 0 in
+    let t : l.i < length c.args.schedule.now = search rules in
+    let n = c.requires.runnable.cores_there l.i t in
     let h : core < core_count l.states = omega (arith, n) in
     λ q. straight_undisturbed _ _ _ _ l.i refl (l.invariant.accepted core h).mode_lawful (λ z. l.invariant.unlatched z core h) (q ∙ c.straight_mode-straight.ensures)
 
 pub loop-i-preserved : goal.loop-i-preserved
 loop-i-preserved c =
-    let test = c.loop-i-test.true in
     let l = c.loop-i in
+    let test : l.i < length c.args.schedule.now = search rules in
     let p = c.requires.runnable in
-    let v : c.unwrap.result.now ≡ c.args.plan.vectors.now = search rules in
+    let v : c.unwrap.result.now ≡ c.args.vectors.now = search rules in
     let f = rw v at c.step-turn.ensures in
     let q = c.after-counts.ensures in
     let n = p.cores_there l.i test in
-    let h : get_or c.args.plan.schedule.now l.i 0 < core_count l.states = omega (arith, n) in
+    let h : get_or c.args.schedule.now l.i 0 < core_count l.states = omega (arith, n) in
     let e = ap (fast_of _ _ _) q.0 ∙ f.left l.counts in
     let kept = given_kept _ _ _ _ h l.invariant.accepted l.invariant.right c.requires.form e p.vectors_lawful in
     record {
@@ -62,7 +64,8 @@ loop-i-preserved c =
 pub returns : goal.returns
 returns c =
     let l = c.loop-i in
+    let all : length c.args.schedule.now ≤ l.i = search (rules, c.requires.runnable.few_entries) in
     record {
-      left = sym (from_end _ _ _ _ l.i _ c.loop-i-test.false) ∙ l.invariant.left;
+      left = sym (from_end _ _ _ _ l.i _ all) ∙ l.invariant.left;
       small = record { executed_le = omega arith; raised_le = omega arith; reused_le = omega arith };
     }

@@ -11,11 +11,11 @@ use Rattle.steps.proofs.entries.Given as goal
 
 abbrev pub invariant-loop-i : goal.invariant-loop-i
 invariant-loop-i l =
-    let board = board_of (lent l.initial.memory l.initial.states l.plan.schedule.now l.plan.levels.now l.plan.limit l.plan.vectors.now) in record {
-      left : given_from board l.given (scheduled (drop l.i l.plan.schedule.now) (drop l.i l.plan.levels.now)) (fast_of l.memory l.states l.cache l.counts)
-          ≡ given_from board l.given (scheduled l.plan.schedule.now l.plan.levels.now) (fast_of l.initial.memory l.initial.states l.initial.cache no_counts);
+    let board = board_of (lent l.initial.memory l.initial.states l.schedule l.levels l.limit l.vectors) in record {
+      left : given_from board l.given (scheduled (drop l.i l.schedule) (drop l.i l.levels)) (fast_of l.memory l.states l.cache l.counts)
+          ≡ given_from board l.given (scheduled l.schedule l.levels) (fast_of l.initial.memory l.initial.states l.initial.cache no_counts);
       small : AtMost l.i l.counts;
       accepted : AllAccepted board l.states;
       right : Right board l.cache l.memory;
-      unlatched : is_quiet l.initial.states l.plan.levels.now ≡ true → NoneLatched l.states;
+      unlatched : is_quiet l.initial.states l.levels ≡ true → NoneLatched l.states;
     }

@@ -1,4 +1,4 @@
-use Rattle.std.proofs.Common.{◌≡◌, ℕ, ◌+◌, ◌-◌, ◌*◌, take, drop, ap, sym, ◌∙◌, arith}
+use Rattle.std.proofs.Common.{◌+◌, ◌-◌, ◌*◌, arith}
 use Rattle.effect.specs.State.{state_words}
 use Rattle.linked.proofs.Cases.{alone_asked, executes_completed, executes_raised}
 use Rattle.linked.proofs.follow.execute.Goals as goal
@@ -17,6 +17,4 @@ pub returns : goal.returns
 returns c =
     let a = c.args in
     let n = a.core * state_words + state_words - a.core * state_words in
-    let m : n ≡ state_words = omega arith in
-    let own = c.own.ensures ∙ ap (λ (k : ℕ). take k (drop (a.core * state_words) a.states.now)) (sym m) in
-    executes_raised a.memory.now a.states.now a.plan.limit a.plan.vectors.now a.cache.now a.core a.lead c.requires.follows c.put.ensures c.requires.reads_state c.execute_form.ensures n m c.if-execute_form.false own c.copy_from_slice.ensures.after c.halt.ensures
+    executes_raised a.memory.now a.states.now a.plan.limit a.plan.vectors.now a.cache.now a.core a.lead c.requires.follows c.put.ensures c.requires.reads_state c.execute_form.ensures n (omega arith) c.if-execute_form.false c.copy.ensures c.copy-2.ensures c.halt.ensures

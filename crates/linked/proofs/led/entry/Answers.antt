@@ -1,10 +1,16 @@
 use Rattle.std.proofs.Common.{sym, ap, ◌∙◌, arith}
+use borrow.Author.Tests.{ne_eqb}
 use Rattle.effect.specs.declared.types.Flow.{Flow}
 use Rattle.std.specs.Option.{is_some}
 use Rattle.refusal.specs.Lent.{board_of}
 use Rattle.linked.specs.Inner.{unscheduled}
 use Rattle.linked.proofs.Entry.{core_0, entry_own, entry_found, entry_leads, entry_runnable, entry_shared}
 use Rattle.linked.proofs.led.entry.Goals as goal
+
+pub returns-then-core-ne0 : goal.returns-then-core-ne0
+returns-then-core-ne0 c =
+    let a = c.args in
+    entry_own a.memory.now a.states.now a.core a.lines a.plan.limit a.plan.vectors.now a.cache.now c.requires c.run.ensures (rw (ne_eqb a.core 0 c.if-core-ne0.true))
 
 pub of_core-before-requires : goal.of_core-before-requires
 of_core-before-requires c = let a = c.args in core_0 a.memory.now a.states.now a.core a.lines a.plan.limit a.plan.vectors.now a.cache.now c.requires

@@ -1,0 +1,2 @@
+-- Stores: which actions store nothing.
+pub mod Stores
