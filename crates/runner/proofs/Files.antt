@@ -1,5 +1,5 @@
 -- How the file of vectors was found. Assumes nothing.
-use Rattle.std.proofs.Common.{List, ◌≡◌, refl, ℕ, ◌≤◌, length, arith}
+use Rattle.std.proofs.Common.{List, ◌≡◌, refl, ℕ, ◌≤◌, length, rules}
 use Rattle.std.specs.Prelude.{Result, Ok, Err}
 use Rattle.std.specs.declared.io.Error.{Error}
 use Rattle.std.specs.declared.io.ErrorKind.{ErrorKind}
