@@ -16,8 +16,29 @@ use Rattle.effect.specs.State.{state_words, own_words, with_own_words, pc_at, de
 use Rattle.effect.specs.Effect.{Outcome}
 use Rattle.effect.specs.declared.types.Effect.{Effect}
 use Rattle.product.specs.declared.Accumulator.{Accumulator}
-use Rattle.commit.specs.Commit.{word_at, put, inputs, put_value, put_flow, put_status, put_accumulated, put_exception, own_state}
+use Rattle.commit.specs.Commit.{word_at, put, reads, inputs, put_value, put_flow, put_status, put_accumulated, put_exception, own_state}
 use Rattle.commit.specs.Inner.{own_inputs}
+
+-- what is read is settled by the words of one state
+reads_as : {w w' : ℕ → ℕ} → ((i : ℕ) → i < state_words → w i ≡ w' i) → (core : ℕ) (f : Fields) → Registers f → reads core w f ≡ reads core w' f
+reads_as h core f r =
+    simp (
+      h f.a (omega (arith, r.a)),
+      h f.b (omega (arith, r.b)),
+      h pc_at (omega arith),
+      h delay_at (omega arith),
+      h target_at (omega arith),
+      h sr_at (omega arith),
+      h epcr_at (omega arith),
+      h eear_at (omega arith),
+      h esr_at (omega arith),
+      h link_at (omega arith),
+      h link_address_at (omega arith),
+      h machi_at (omega arith),
+      h maclo_at (omega arith),
+      h picmr_at (omega arith),
+      h picsr_at (omega arith),
+    )
 
 module _ (s : List ℕ) (core : ℕ) (h : core * state_words + state_words ≤ length s) where
   pub own_length : length (own_words s core) ≡ state_words
@@ -28,24 +49,7 @@ module _ (s : List ℕ) (core : ℕ) (h : core * state_words + state_words ≤ l
 
   pub own_inputs_at : (f : Fields) → Registers f → own_inputs (own_words s core) core f ≡ inputs s core f
   unfolding inputs
-  own_inputs_at f r =
-      simp (
-        own_word_at f.a (omega (arith, r.a)),
-        own_word_at f.b (omega (arith, r.b)),
-        own_word_at pc_at (omega arith),
-        own_word_at delay_at (omega arith),
-        own_word_at target_at (omega arith),
-        own_word_at sr_at (omega arith),
-        own_word_at epcr_at (omega arith),
-        own_word_at eear_at (omega arith),
-        own_word_at esr_at (omega arith),
-        own_word_at link_at (omega arith),
-        own_word_at link_address_at (omega arith),
-        own_word_at machi_at (omega arith),
-        own_word_at maclo_at (omega arith),
-        own_word_at picmr_at (omega arith),
-        own_word_at picsr_at (omega arith),
-      )
+  own_inputs_at f r = reads_as own_word_at core f r
 
   -- t stands in s' as the core's words, and the rest of s' is that of s
   record Stands (t s' : List ℕ) : Type 0 where
@@ -129,3 +133,9 @@ module _ (s : List ℕ) (core : ℕ) (h : core * state_words + state_words ≤ l
         ap₂ (λ (b r : List ℕ). b ++ (t' ++ r))
         (take_at (take (core * state_words) s) (t ++ drop state_words (drop (core * state_words) s)) (core * state_words) (length-take-le (core * state_words) s (omega arith)))
         (ap (drop state_words) from_own ∙ drop_at t (drop state_words (drop (core * state_words) s)) state_words n)
+
+-- ---- the words of one state that a longer list begins with, whatever core's they are
+
+-- an instruction reads there what it reads in the list
+pub first_inputs : (own : List ℕ) → state_words ≤ length own → (core : ℕ) (f : Fields) → Registers f → own_inputs (own_words own 0) core f ≡ own_inputs own core f
+first_inputs own h core f r = reads_as (λ i l. own_word_at own 0 h i l ∙ ap (λ (i : ℕ). get_or own i 0) (zero-add i)) core f r

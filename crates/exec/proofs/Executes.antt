@@ -1,11 +1,11 @@
 -- An entry performed on a core's own state is the instruction of that core among all states. Assumes nothing.
 use mathlib.Core.Bool.{true, false}
-use mathlib.Core.List.{List}
+use mathlib.Core.List.{List, ◌++◌}
 use mathlib.Core.Path.{◌≡◌, refl, sym, ap, ap₂, subst, ◌∙◌}
 use Prim.Native.Nat.{ℕ, ◌+◌, ◌*◌, ◌/◌, ◌^◌, ◌<◌, ◌≤◌}
 use native.Mathlib.Nat.{zero-add}
 use native.Mathlib.Omega.{arith}
-use lib.ListN.{length, get_or}
+use lib.ListN.{length, take, drop, get_or, length-drop}
 use Rattle.std.specs.Prelude.{Option, Some, None, option_map, is_some}
 use Rattle.bits.specs.Word.{field}
 use Rattle.isa.specs.Entry.{fields_of}
@@ -22,11 +22,11 @@ use Rattle.commit.specs.Commit.{word_at, inputs, no_fields, own_state, clear_lin
 use Rattle.commit.specs.Inner.{tells, own_inputs, entry_inputs, Owned, Performed}
 use Rattle.commit.specs.declared.Done.{Done}
 use Rattle.commit.proofs.Commits.{owned_as, performed_as, kept}
-use Rattle.commit.proofs.Own.{own_word_at, own_inputs_at, own_committed}
+use Rattle.commit.proofs.Own.{own_word_at, own_inputs_at, own_committed, first_inputs}
 use Rattle.semantics.specs.Meaning.{meaning, effect_of}
 use Rattle.lawful.proofs.Commit.{length_own}
 use Rattle.lawful.proofs.Sound.{meaning_sound}
-use Rattle.exec.specs.Inner.{Executed}
+use Rattle.exec.specs.Inner.{Performs, Executed, Executes}
 
 -- the same effect under another name
 pub executed_as : {e e' : Effect} → e ≡ e' → {vectors mem s mem' s' : List ℕ} {core : ℕ} {r : Done} → Executed vectors mem s core e mem' s' r → Executed vectors mem s core e' mem' s' r
@@ -122,3 +122,57 @@ module _ (s : List ℕ) (core : ℕ) (h : core * state_words + state_words ≤ l
   raised_here cause place l {vectors} {r} p =
       let v = ap (λ (i : ℕ). get_or own i 0) (zero-add place) ∙ ap (λ (own : List ℕ). get_or own place 0) o ∙ own_word_at s core h place l in
       raised_anywhere cause (word_at s core place) (owned_as (ap (λ (eear : ℕ). faults (inputs own 0 no_fields) cause eear) v) p)
+
+-- ---- on the words of one state that a longer list begins with
+
+module _ (own : List ℕ) (h : state_words ≤ length own) (board : Board) (mem : List ℕ) (core kind entry : ℕ) where
+  first_effect : meaning board mem kind (entry_inputs (own_words own 0) core entry) ≡ meaning board mem kind (entry_inputs own core entry)
+  unfolding entry_inputs
+  first_effect = ap (λ (x : Inputs). meaning board mem kind x) (first_inputs own h core (fields_of entry) (fields_registers entry))
+
+  first_committed : {t : List ℕ} → t ≡ own_state board.vectors (own_words own 0) 0 (meaning board mem kind (entry_inputs own core entry))
+      → with_own_words own 0 t ≡ own_state board.vectors own 0 (meaning board mem kind (entry_inputs own core entry))
+  unfolding entry_inputs
+  first_committed p =
+      let sound = meaning_sound board mem (entry_inputs own core entry) (fields_registers entry).d kind in
+      own_committed own 0 h board.vectors (meaning board mem kind (entry_inputs own core entry)) sound.place_lt p
+
+  -- what is performed on them is performed on the list
+  pub performed_whole : {first t own' mem' : List ℕ} {r : Done} → first ≡ own_words own 0 → own' ≡ with_own_words own 0 t
+      → Performs board mem first core kind entry mem' t r → Performs board mem own core kind entry mem' own' r
+  performed_whole {t = t} {mem' = mem'} {r = r} o w p =
+      let q = performed_as first_effect (subst (λ (first : List ℕ). Performs board mem first core kind entry mem' t r) o p) in
+      record { memory = q.memory; left = w ∙ first_committed q.left; done = q.done }
+
+  abbrev first_left : List ℕ
+  first_left = own_state board.vectors (own_words own 0) 0 (meaning board mem kind (entry_inputs own core entry))
+
+  -- and what is performed on the list is performed on them
+  module _ {own' mem' : List ℕ} {r : Done} (p : Performs board mem own core kind entry mem' own' r) where
+    performed_first : Performs board mem (own_words own 0) core kind entry mem' first_left r
+    performed_first = performed_as (sym first_effect) (record { memory = p.memory; left = refl; done = p.done })
+
+    whole_left : own' ≡ with_own_words own 0 first_left
+    whole_left = p.left ∙ sym (first_committed refl)
+
+-- an entry performed on every word from the core's on
+module _ (s : List ℕ) (core : ℕ) (h : core * state_words + state_words ≤ length s) (board : Board) (mem : List ℕ) (entry : ℕ) (f : entry < 2 ^ 64) where
+  from_core : state_words ≤ length (drop (core * state_words) s)
+  from_core = simp length-drop (omega arith)
+
+  -- own is those words, own' what is left of them, and s₁ the states with them
+  module _ {own own' s₁ mem' : List ℕ} {r : Done} (o : own ≡ drop (core * state_words) s) (w : s₁ ≡ take (core * state_words) s ++ own') (q : Performs board mem own core (entry / 2 ^ 56) entry mem' own' r) where
+    p : Performs board mem (drop (core * state_words) s) core (entry / 2 ^ 56) entry mem' own' r
+    p = subst (λ (own : List ℕ). Performs board mem own core (entry / 2 ^ 56) entry mem' own' r) o q
+
+    left_from : s₁ ≡ with_own_words s core (first_left (drop (core * state_words) s) from_core board mem core (entry / 2 ^ 56) entry)
+    left_from = w ∙ ap (λ (t : List ℕ). take (core * state_words) s ++ t) (whole_left (drop (core * state_words) s) from_core board mem core (entry / 2 ^ 56) entry p)
+
+    first_from : Performs board mem (own_words s core) core (entry / 2 ^ 56) entry mem' (first_left (drop (core * state_words) s) from_core board mem core (entry / 2 ^ 56) entry) r
+    first_from = performed_first (drop (core * state_words) s) from_core board mem core (entry / 2 ^ 56) entry p
+
+    pub kept_from : r.stored ≡ None → Executes board mem s core entry mem' s₁ r
+    kept_from = kept_here s core h refl left_from board mem entry f first_from
+
+    pub stored_from : {at : ℕ} → r.stored ≡ Some at → {s' : List ℕ} → s' ≡ clear_links (core_count s₁) s₁ (at / 4 * 4) → Executes board mem s core entry mem' s' r
+    stored_from = stored_here s core h refl left_from board mem entry f first_from

@@ -23,11 +23,8 @@ pub fn execute(board: Board, memory: &mut [u8], states: &mut [u32], core: u8, en
     ensures { Executes (board_of_code board.entry) memory.old states.old core entry memory.new states.new result }
 {
     let kind = (entry / 0x100_0000_0000_0000) as u8;
-    // Split twice here, since effect's state has no own_mut (it says why); first_chunk_mut would test the length at
-    // each step.
-    let (_, rest) = states.split_at_mut(usize::from(core) * STATE_WORDS);
-    let (part, _) = rest.split_at_mut(STATE_WORDS);
-    let own = part.as_mut_array().unwrap();
+    // The core's words and all after them, since effect's state has no own_mut (it says why).
+    let (_, own) = states.split_at_mut(usize::from(core) * STATE_WORDS);
     let done = perform::perform(board, memory, own, core, kind, entry);
     if let Some(address) = done.stored {
         commit::links::clear_links(states, address / 4 * 4);

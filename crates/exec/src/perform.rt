@@ -2,9 +2,10 @@
 // What an entry does to memory and its core's own state, by group of kinds. Each group reads its inputs itself, so that
 // nothing is read that its instructions do not use. `memory`, `own`, `core` and `entry` stay parameters: a struct with
 // two `&mut` would be lent anew at each call, and its contracts would speak of references in place of what they hold.
-ghost use Rattle.std.specs.Prelude.{◌≤◌, ◌<◌};
+ghost use Rattle.std.specs.Prelude.{◌≤◌, ◌<◌, length};
 ghost use Rattle.isa.specs.Groups.{first_add_immediate, first_store, first_compare, first_cache};
 ghost use Rattle.effect.specs.Board.{board_of_code};
+ghost use Rattle.effect.specs.State.{state_words};
 ghost use Rattle.exec.specs.Inner.{Performs};
 
 use commit::Done;
@@ -144,20 +145,25 @@ fn high(
     }
 }
 
-// Performs a kind with the fields of an entry. The tests halve the groups, so that none is deep.
+// Performs a kind with the fields of an entry, on the state that the words of `own` begin with. The tests halve the
+// groups, so that none is deep.
 pub fn perform(
     board: Board,
     memory: &mut [u8],
-    own: &mut [u32; STATE_WORDS],
+    own: &mut [u32],
     core: u8,
     kind: u8,
     entry: u64,
 ) -> Done
+    requires { state_words ≤ length own.old }
     ensures { Performs (board_of_code board.entry) memory.old own.old core kind entry memory.new own.new result }
 {
+    // first_chunk_mut would test the length at each step.
+    let (part, _) = own.split_at_mut(STATE_WORDS);
+    let state = part.as_mut_array().unwrap();
     if kind < groups::ADD_IMMEDIATE {
-        low(board, memory, own, core, kind, entry)
+        low(board, memory, state, core, kind, entry)
     } else {
-        high(board, memory, own, core, kind, entry)
+        high(board, memory, state, core, kind, entry)
     }
 }
