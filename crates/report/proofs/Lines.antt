@@ -1,9 +1,12 @@
 -- A register's line, and the turns of the loops over registers and cores. Assumes nothing.
 use mathlib.Core.Path.{◌≡◌, refl, ap₂}
 use mathlib.Core.List.{List, [], ◌∷◌, ◌++◌}
-use Prim.Native.Nat.{ℕ, zero, suc, ◌+◌, ◌<◌}
+use Prim.Native.Nat.{ℕ, zero, suc, ◌+◌, ◌≤◌, ◌<◌}
 use native.Mathlib.Numerals.{add-one}
+use native.Mathlib.Omega.{arith}
 use lib.ListN.{length, take, drop, get_or, length-append}
+use Rattle.print.specs.Inner.{Fits}
+use Rattle.print.specs.declared.Writer.{Writer}
 use Rattle.print.proofs.Places.{length_hexadecimal}
 use lib.Dec.{lit<, lit≤}
 use lib.Seq.{drop-cons, get_or-take, take-take}
@@ -22,6 +25,16 @@ register_zero number value e = rw (eq-eqb value 0 e)
 pub register_other : (number value : ℕ) → (value ≡ 0 → ⊥) → register_line number value ≡ keyed_decimal "r" number ++ keyed_word "=" value ++ line_feed
 unfolding register_line
 register_other number value n = rw (ne_eqb value 0 n)
+
+-- a smaller value's line is no longer
+line_below : (number : ℕ) {v' v : ℕ} → v' ≤ v → length (register_line number v') ≤ length (register_line number v)
+line_below number {v' = zero} {v = v} h = rw (register_zero number 0 refl) (omega arith)
+line_below number {v' = suc n} {v = v} h =
+    simp (register_other number (suc n) (λ e. absurd (omega (arith, e))), register_other number v (λ e. absurd (omega (arith, h, e))), length-append, length_hexadecimal) (omega arith)
+
+-- so it has room where the other has
+pub fits_below : (w : Writer) (number : ℕ) {v' v : ℕ} → v' ≤ v → Fits w (register_line number v) → Fits w (register_line number v')
+fits_below w number h f = let l = line_below number h in omega arith
 
 pub ruleset register_lengths = (length-append, length_hexadecimal, register_other)
 

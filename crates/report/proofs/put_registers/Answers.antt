@@ -5,7 +5,7 @@ use Rattle.std.proofs.Common.{rules}
 use Rattle.print.specs.Inner.{Puts}
 use Rattle.print.proofs.Stores.{rest_put, rest_room, rest_none}
 use Rattle.report.specs.Result.{register_line, register_lines}
-use Rattle.report.proofs.Lines.{next_register, no_register}
+use Rattle.report.proofs.Lines.{next_register, no_register, fits_below}
 use Rattle.report.proofs.put_registers.Goals as goal
 
 pub put_register-requires : goal.put_register-requires
@@ -14,7 +14,7 @@ put_register-requires c =
     let v = c.args.values.now in
     let room = rest_room (register_line l.number (get_or v l.number 0)) (register_lines (l.number + 1) (drop (l.number + 1) v)) l.invariant
     (next_register v l.number c.loop-number-test.true) c.requires in
-    search (rules, room)
+    fits_below l.w l.number (search rules) room
 
 pub loop-number-preserved : goal.loop-number-preserved
 loop-number-preserved c =
